@@ -1,0 +1,15 @@
+-- The bit fields of a bundle.
+use Prim.Native.Nat.{ℕ, _+_, _*_, _/_, _%_, _^_}
+use Rattle.bundle.specs.declared.split.Bundle.{Bundle}
+
+-- the field of `width` bits of the number n whose lowest bit is bit `first`
+abbrev pub field : ℕ → ℕ → ℕ → ℕ
+field n first width = n / 2 ^ first % 2 ^ width
+
+-- the 128 bits of a bundle as one number
+abbrev pub bits : Bundle → ℕ
+bits b = b .low + b .high * 2 ^ 64
+
+-- slot k, for k from 0 to 2, of a bundle's bits: 41 bits each, above the five of the template
+abbrev pub slot : ℕ → ℕ → ℕ
+slot n k = field n (5 + 41 * k) 41

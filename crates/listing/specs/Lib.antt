@@ -1,0 +1,3 @@
+pub mod Lister
+pub mod Refusals
+pub mod Text
