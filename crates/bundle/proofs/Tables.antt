@@ -1,6 +1,6 @@
 -- A table is a function of the place if the list of its entries is that function over the places, which antt computes.
-use mathlib.Core.Path.{_≡_, _∙_, ap}
 use mathlib.Core.List.{List, map}
+use mathlib.Core.Path.{_≡_, ap, _∙_}
 use Prim.Native.Nat.{ℕ, _<_}
 use native.Mathlib.Nat.{zero-add}
 use lib.ListN.{getD}

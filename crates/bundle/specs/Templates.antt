@@ -3,6 +3,7 @@ use mathlib.Core.Bool.{Bool, true, false, cond}
 use mathlib.Core.List.{List, [], _∷_}
 use Prim.Native.Nat.{ℕ, _/_, _%_, _*_}
 use lib.Dec.{eqb}
+use Rattle.std.specs.Options.{mapped}
 use Rattle.std.specs.declared.option.Option.{Option}
 use Rattle.std.specs.declared.option.Option.the-variants.{Some, None}
 use Rattle.bundle.specs.declared.template.Unit.{Unit as Kind}
@@ -35,14 +36,16 @@ rows =
     row 0x1c Memory Floating Branch false false ∷
     []
 
--- the template of the row with this number, with a stop at the end or without; none where there is no such row
-abbrev pub found : List Row → ℕ → Bool → Option Template
+-- the units and stops of the row with this number, with a stop at the end or without; none where there is no such row
+abbrev pub found : List Row → ℕ → Bool → Option (List Kind × List Bool)
 found [] n end = None
-found (r ∷ rs) n end =
-    cond (eqb (r .number) n) (Some (record { units = r .units; stops = r .after0 ∷ r .after1 ∷ end ∷ [] })) (found rs n end)
+found (r ∷ rs) n end = cond (eqb (r .number) n) (Some (r .units, r .after0 ∷ r .after1 ∷ end ∷ [])) (found rs n end)
+
+abbrev pub rowOf : ℕ → Option (List Kind × List Bool)
+rowOf n = found rows (2 * (n / 2)) (eqb (n % 2) 1)
 
 abbrev pub templateOf : ℕ → Option Template
-templateOf n = found rows (2 * (n / 2)) (eqb (n % 2) 1)
+templateOf n = mapped (λ row. record { units = row .0; stops = row .1 }) (rowOf n)
 
 -- the letter of a unit, as its ASCII code
 abbrev pub letterOf : Kind → ℕ

@@ -19,11 +19,11 @@ impl Bundle {
     pub fn fetch<M: Readable>(memory: &M, address: u64) -> Result<Bundle, MissingRight>
         ensures { λ r. ⌜ r ≡ fetched (meaning (now (memory .entry))) address ⌝ }
     {
-        if address > u64::MAX - 15 {
+        let Some(next) = address.checked_add(8) else {
             return Err(MissingRight { address });
-        }
+        };
         let low = memory.load(address, Size::Eight)?;
-        match memory.load(address + 8, Size::Eight) {
+        match memory.load(next, Size::Eight) {
             Ok(high) => Ok(Bundle { low, high }),
             Err(_) => Err(MissingRight { address }),
         }

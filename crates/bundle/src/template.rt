@@ -1,6 +1,7 @@
 // The templates: which unit executes each slot of a bundle, and after which slots an instruction group stops.
 ghost use mathlib.Core.Path.{_≡_};
-ghost use Rattle.bundle.specs.Templates.{templateOf, letterOf};
+ghost use Prim.Native.Nat.{_<_};
+ghost use Rattle.bundle.specs.Templates.{letterOf, rowOf, templateOf};
 
 // An execution unit. A long slot (L) and the extended slot (X) after it hold one instruction.
 #[derive(Clone, Copy)]
@@ -27,123 +28,65 @@ pub struct Template {
     pub stops: [bool; 3],
 }
 
-// By template number; a reserved one has no template.
-const TEMPLATES: [Option<Template>; 32] = [
-    Some(Template {
-        units: [M, I, I],
-        stops: [false, false, false],
-    }),
-    Some(Template {
-        units: [M, I, I],
-        stops: [false, false, true],
-    }),
-    Some(Template {
-        units: [M, I, I],
-        stops: [false, true, false],
-    }),
-    Some(Template {
-        units: [M, I, I],
-        stops: [false, true, true],
-    }),
-    Some(Template {
-        units: [M, L, X],
-        stops: [false, false, false],
-    }),
-    Some(Template {
-        units: [M, L, X],
-        stops: [false, false, true],
-    }),
+// The units and stops of each template number; a reserved one has none.
+const TEMPLATES: [Option<([Unit; 3], [bool; 3])>; 32] = [
+    Some(([M, I, I], [false, false, false])),
+    Some(([M, I, I], [false, false, true])),
+    Some(([M, I, I], [false, true, false])),
+    Some(([M, I, I], [false, true, true])),
+    Some(([M, L, X], [false, false, false])),
+    Some(([M, L, X], [false, false, true])),
     None,
     None,
-    Some(Template {
-        units: [M, M, I],
-        stops: [false, false, false],
-    }),
-    Some(Template {
-        units: [M, M, I],
-        stops: [false, false, true],
-    }),
-    Some(Template {
-        units: [M, M, I],
-        stops: [true, false, false],
-    }),
-    Some(Template {
-        units: [M, M, I],
-        stops: [true, false, true],
-    }),
-    Some(Template {
-        units: [M, F, I],
-        stops: [false, false, false],
-    }),
-    Some(Template {
-        units: [M, F, I],
-        stops: [false, false, true],
-    }),
-    Some(Template {
-        units: [M, M, F],
-        stops: [false, false, false],
-    }),
-    Some(Template {
-        units: [M, M, F],
-        stops: [false, false, true],
-    }),
-    Some(Template {
-        units: [M, I, B],
-        stops: [false, false, false],
-    }),
-    Some(Template {
-        units: [M, I, B],
-        stops: [false, false, true],
-    }),
-    Some(Template {
-        units: [M, B, B],
-        stops: [false, false, false],
-    }),
-    Some(Template {
-        units: [M, B, B],
-        stops: [false, false, true],
-    }),
+    Some(([M, M, I], [false, false, false])),
+    Some(([M, M, I], [false, false, true])),
+    Some(([M, M, I], [true, false, false])),
+    Some(([M, M, I], [true, false, true])),
+    Some(([M, F, I], [false, false, false])),
+    Some(([M, F, I], [false, false, true])),
+    Some(([M, M, F], [false, false, false])),
+    Some(([M, M, F], [false, false, true])),
+    Some(([M, I, B], [false, false, false])),
+    Some(([M, I, B], [false, false, true])),
+    Some(([M, B, B], [false, false, false])),
+    Some(([M, B, B], [false, false, true])),
     None,
     None,
-    Some(Template {
-        units: [B, B, B],
-        stops: [false, false, false],
-    }),
-    Some(Template {
-        units: [B, B, B],
-        stops: [false, false, true],
-    }),
-    Some(Template {
-        units: [M, M, B],
-        stops: [false, false, false],
-    }),
-    Some(Template {
-        units: [M, M, B],
-        stops: [false, false, true],
-    }),
+    Some(([B, B, B], [false, false, false])),
+    Some(([B, B, B], [false, false, true])),
+    Some(([M, M, B], [false, false, false])),
+    Some(([M, M, B], [false, false, true])),
     None,
     None,
-    Some(Template {
-        units: [M, F, B],
-        stops: [false, false, false],
-    }),
-    Some(Template {
-        units: [M, F, B],
-        stops: [false, false, true],
-    }),
+    Some(([M, F, B], [false, false, false])),
+    Some(([M, F, B], [false, false, true])),
     None,
     None,
 ];
+
+// The row of a template number in the table.
+fn row(number: u8) -> Option<([Unit; 3], [bool; 3])>
+    requires { ⌜ number < 32 ⌝ }
+    ensures { λ r. ⌜ r ≡ rowOf number ⌝ }
+{
+    TEMPLATES[number as usize]
+}
 
 impl Template {
     // The template of this number; none where the number is reserved or past the table.
     pub fn from_number(number: u8) -> Option<Template>
         ensures { λ r. ⌜ r ≡ templateOf number ⌝ }
     {
-        if number < 32 {
-            TEMPLATES[number as usize]
-        } else {
-            None
+        if number >= 32 {
+            return None;
+        }
+        match row(number) {
+            Some(row) => {
+                let units = row.0;
+                let stops = row.1;
+                Some(Template { units, stops })
+            }
+            None => None,
         }
     }
 }

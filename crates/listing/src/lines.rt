@@ -12,7 +12,7 @@ use bundle::Template;
 use memory::Readable;
 
 // The letter of the unit of a slot; a question mark where the template is reserved.
-fn unit_letter(template: Option<Template>, slot: usize) -> u8
+fn letter(template: Option<Template>, slot: usize) -> u8
     requires { ⌜ slot < 3 ⌝ }
     ensures { λ r. ⌜ r ≡ letterIn template slot ⌝ }
 {
@@ -41,21 +41,9 @@ fn write_bundle(out: &mut [u8], address: u64, bundle: Bundle)
 {
     let (number, slot0, slot1, slot2) = bundle.split();
     let template = Template::from_number(number);
-    write_line(&mut out[0..33], address, 0, unit_letter(template, 0), slot0);
-    write_line(
-        &mut out[33..66],
-        address,
-        1,
-        unit_letter(template, 1),
-        slot1,
-    );
-    write_line(
-        &mut out[66..99],
-        address,
-        2,
-        unit_letter(template, 2),
-        slot2,
-    );
+    write_line(&mut out[0..33], address, 0, letter(template, 0), slot0);
+    write_line(&mut out[33..66], address, 1, letter(template, 1), slot1);
+    write_line(&mut out[66..99], address, 2, letter(template, 2), slot2);
 }
 
 // Writes the lines of the bundle at the address into the buffer, of which they take the first 99 bytes.

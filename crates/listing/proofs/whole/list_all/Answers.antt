@@ -1,6 +1,12 @@
-use mathlib.Core.Path.{ap, _∙_}
+use mathlib.Core.List.{_++_}
+use mathlib.Core.Path.{_≡_, ap, _∙_}
+use Prim.Native.Nat.{_*_}
 use native.Mathlib.Omega.{arith}
+use Rattle.std.specs.Of.Vec.{vec-items}
 use Rattle.std.specs.Results.{isOk}
+use Rattle.memory.specs.Kinds.{image}
+use Rattle.bundle.specs.Fetching.{bundleAt}
+use Rattle.listing.specs.Text.{bundleLines}
 use Rattle.listing.proofs.Images.{image-answers, image-lines, first-more}
 use Rattle.listing.proofs.whole.list_all.Needs as need
 
@@ -10,5 +16,7 @@ unwrap-requires c κs =
 
 pub loop-k-again : need.loop-k-again
 loop-k-again c =
-    let l = c .list-bundle .ensures .buffer ∙ image-lines (c .args .bytes .now) (c .loop-k .k) _ (c .new-image .ensures) (omega arith) (c .pre) _ (c .loop-k .inv .1) in
-    (c .in-Continue-extend-from-slice .ensures tt .items ∙ first-more (c .args .bytes .now) (c .loop-k .k) _ _ (c .loop-k .inv .0) l, omega arith)
+    let k = c .loop-k .k in
+    let l : c .list-bundle .last .buffer ≡ bundleLines (16 * k) (bundleAt (image 0 (c .args .bytes .now)) (16 * k)) = c .list-bundle .ensures .buffer ∙ image-lines (c .args .bytes .now) (c .loop-k .k) _ (c .new-image .ensures) (omega arith) (c .pre) _ (c .loop-k .inv .1) in
+    let t : vec-items (c .extend-from-slice .last .self) ≡ vec-items (c .loop-k .text) ++ c .list-bundle .last .buffer = c .in-Continue-extend-from-slice .ensures tt .items in
+    (t ∙ first-more (c .args .bytes .now) k _ _ (c .loop-k .inv .0) l, omega arith)
