@@ -2,7 +2,7 @@
 use mathlib.Core.Path.{_≡_, refl, sym, ap, _∙_}
 use mathlib.Core.Bool.{true, false, cond, _&&_}
 use mathlib.Core.List.{List, [], _∷_, _++_, map, map-id}
-use Prim.Native.Nat.{ℕ, _+_, _*_, _%_, _^_, _≤_}
+use Prim.Native.Nat.{ℕ, _+_, _*_, _%_, _^_, _≤_, min}
 use native.Mathlib.Omega.{arith}
 use lib.Dec.{eqb, leb}
 use lib.ListN.{length, drop}
@@ -13,7 +13,7 @@ use Rattle.std.proofs.shelf.Counted.{map-counting-more}
 use Rattle.std.proofs.shelf.Lists.{append-nil, drop-all, joined-more}
 use Rattle.std.proofs.shelf.Tests.{cond-true, and-from, eq-eqb, le-leb}
 use Rattle.memory.specs.declared.access.Right.the-variants.{Read}
-use Rattle.memory.specs.Kinds.{image}
+use Rattle.memory.specs.Kinds.{image, readOnly}
 use Rattle.memory.specs.Meaning.{Meaning, granted}
 use Rattle.memory.proofs.Laid.{granted-covered}
 use Rattle.memory.proofs.Ranges.{each-inside}
@@ -24,8 +24,9 @@ use Rattle.listing.specs.Lister.{answered, written, after, firstLines}
 module _ (bytes : List ℕ) (k : ℕ) (m : Meaning) (is : m ≡ image 0 bytes) (whole : 16 * k + 16 ≤ length bytes) (few : length bytes ≤ 65536) where
   readable : granted (image 0 bytes) Read (16 * k) 16 ≡ true
   readable =
-      let e = each-inside 0 (length bytes) (16 * k) 16 (omega arith) (omega arith) in
-      sym (granted-covered _ 0 bytes Read (16 * k) 16 true (omega arith) refl (sym (e ∙ and-from (leb 0 (16 * k)) _ (le-leb 0 (16 * k) (omega arith)) (le-leb (16 * k + 16) (0 + length bytes) (omega arith)))))
+      let e = each-inside 0 (length bytes) (16 * k) 16 (omega arith) in
+      let ends = and-from (leb 0 (16 * k)) _ (le-leb 0 (16 * k) (omega arith)) (le-leb (16 * k + 16) (min (0 + length bytes) (2 ^ 64)) (omega arith)) in
+      sym (granted-covered readOnly 0 bytes Read (16 * k) 16 true (omega arith) refl (sym (e ∙ ends)))
 
   module _ (lines : List ℕ) (n : length lines ≡ 99) where
     -- a buffer of 99 bytes has room for the lines of a bundle

@@ -12,12 +12,12 @@ use Rattle.std.proofs.shelf.Lists.{length-take, getD-take}
 use Rattle.std.proofs.shelf.Tests.{cases-bool, cond-true, cond-false, and-right}
 use Rattle.std.proofs.shelf.Ways.{tells}
 use Rattle.memory.specs.declared.access.Right.{Right}
-use Rattle.memory.specs.declared.access.Right.the-variants.{Read}
+use Rattle.memory.specs.declared.access.Right.the-variants.{Read, Write, Speculative}
 use Rattle.memory.specs.declared.access.Rights.{Rights}
 use Rattle.memory.specs.declared.access.Size.{Size}
 use Rattle.memory.specs.Access.{has, bytesOf}
 use Rattle.memory.specs.Meaning.{Location, Meaning, nowhere, each, word, granted, wordAt, loaded}
-use Rattle.memory.specs.Kinds.{inside, laid}
+use Rattle.memory.specs.Kinds.{inside, laid, allRights}
 use Rattle.memory.proofs.Top.{has-nowhere}
 use Rattle.memory.proofs.Ranges.{some-bytes, each-and, word-same}
 
@@ -51,7 +51,7 @@ module _ (rights : Rights) (base : ℕ) (bytes : List ℕ) where
   granted-not right a n some h = sym (laid-granted right a n some ∙ ap (λ b. b && each (inside base (length bytes)) a n) h)
 
   -- a word of the memory is one of the bytes
-  pub laid-word : (a n : ℕ) → base ≤ a → a + n ≤ base + length bytes → base + length bytes ≤ 2 ^ 64 → wordAt (laid rights base bytes) a n ≡ word (λ i. getD bytes i 0) (a - base) n
+  pub laid-word : (a n : ℕ) → base ≤ a → a + n ≤ base + length bytes → a + n ≤ 2 ^ 64 → wordAt (laid rights base bytes) a n ≡ word (λ i. getD bytes i 0) (a - base) n
   laid-word a n low high top = word-same (λ x. laid rights base bytes x .byte) (λ i. getD bytes i 0) a (a - base) n at
     where
       at : (k : ℕ) → k < n → laid rights base bytes (a + k) .byte ≡ getD bytes (a - base + k) 0
@@ -68,19 +68,7 @@ module _ (rights : Rights) (base : ℕ) (bytes : List ℕ) where
   pub loaded-not : (a : ℕ) (size : Size) → has rights Read ≡ true → false ≡ each (inside base (length bytes)) a (bytesOf size) → Err (record { address = a }) ≡ loaded (laid rights base bytes) a size
   loaded-not a size h e = sym (cond-false _ _ _ (sym (granted-covered Read a (bytesOf size) false (some-bytes size) h e)))
 
--- bytes that would pass the top address do not count
-pub laid-cut : (rights : Rights) (base : ℕ) (bytes : List ℕ) (n : ℕ) → 2 ^ 64 ≤ base + n → laid rights base (take n bytes) ≡ laid rights base bytes
-laid-cut rights base bytes n h = fun-ext (λ a. ⊎-elim (within a) (without a) (cases-bool (inside base (length bytes) a)))
-  where
-    within : (a : ℕ) → inside base (length bytes) a ≡ true → laid rights base (take n bytes) a ≡ laid rights base bytes a
-    within a e =
-        let l = length-take n bytes in
-        let i : inside base (length (take n bytes)) a ≡ true = grind (arith, tells) in
-        let p : a - base < n = grind (arith, tells) in
-        cc (laid-in rights base (take n bytes) a i, laid-in rights base bytes a e, getD-take n bytes (a - base) 0 p)
-
-    without : (a : ℕ) → inside base (length bytes) a ≡ false → laid rights base (take n bytes) a ≡ laid rights base bytes a
-    without a e =
-        let l = length-take n bytes in
-        let i : inside base (length (take n bytes)) a ≡ false = grind (arith, tells) in
-        laid-out rights base (take n bytes) a i ∙ sym (laid-out rights base bytes a e)
+pub all-rights : (right : Right) → has allRights right ≡ true
+all-rights Read = refl
+all-rights Write = refl
+all-rights Speculative = refl

@@ -1,3 +1,5 @@
 pub mod Laid
+pub mod Puts
 pub mod Ranges
+pub mod Stores
 pub mod Top

@@ -1,7 +1,7 @@
 -- Tests and words over a range of addresses.
 use mathlib.Core.Path.{_≡_, refl, sym, ap, _∙_}
 use mathlib.Core.Bool.{Bool, true, false, _&&_}
-use Prim.Native.Nat.{ℕ, zero, suc, _+_, _-_, _*_, _^_, _≤_, _<_}
+use Prim.Native.Nat.{ℕ, zero, suc, _+_, _-_, _*_, _^_, _≤_, _<_, min}
 use native.Mathlib.Omega.{arith}
 use lib.Dec.{leb, ltb}
 use mathlib.Core.Logic.{⊎-elim}
@@ -30,13 +30,13 @@ inside-decides : (base n a : ℕ) → Decides (inside base n a) ((base ≤ a) ×
 inside-decides base n a = (λ e. (grind (arith, tells), grind (arith, tells), grind (arith, tells)), λ h. grind (arith, tells))
 
 -- a range lies inside another if its two ends do
-pub each-inside : (base len a n : ℕ) → 0 < n → base + len ≤ 2 ^ 64 → each (inside base len) a n ≡ (leb base a && leb (a + n) (base + len))
-each-inside base len a n some top = same-from-decides _ _ d (λ e. ends (grind (arith, tells)) (grind (arith, tells)), λ h. let f = h 0 some in let l = h (n - 1) (omega arith) in grind (arith, tells))
+pub each-inside : (base len a n : ℕ) → 0 < n → each (inside base len) a n ≡ (leb base a && leb (a + n) (min (base + len) (2 ^ 64)))
+each-inside base len a n some = same-from-decides _ _ d (λ e. ends (grind (arith, tells)) (grind (arith, tells)), λ h. let f = h 0 some in let l = h (n - 1) (omega arith) in grind (arith, tells))
   where
     d : Decides (each (inside base len) a n) ((k : ℕ) → k < n → (base ≤ a + k) × (a + k < base + len) × (a + k < 2 ^ 64))
     d = each-decides (inside base len) (λ x. (base ≤ x) × (x < base + len) × (x < 2 ^ 64)) (inside-decides base len) a n
 
-    ends : base ≤ a → a + n ≤ base + len → (k : ℕ) → k < n → (base ≤ a + k) × (a + k < base + len) × (a + k < 2 ^ 64)
+    ends : base ≤ a → a + n ≤ min (base + len) (2 ^ 64) → (k : ℕ) → k < n → (base ≤ a + k) × (a + k < base + len) × (a + k < 2 ^ 64)
     ends p q k h = (omega arith, omega arith, omega arith)
 
 -- a test that holds everywhere or nowhere, joined to another

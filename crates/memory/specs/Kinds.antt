@@ -19,9 +19,19 @@ unfoldable pub laid : Rights → ℕ → List ℕ → Meaning
 laid rights base bytes a =
     cond (inside base (length bytes) a) (record { byte = getD bytes (a - base) 0; rights = rights }) nowhere
 
+abbrev pub readOnly : Rights
+readOnly = record { read = true; write = false; speculative = false }
+
+abbrev pub allRights : Rights
+allRights = record { read = true; write = true; speculative = true }
+
 -- an image can be read and nothing else
 abbrev pub image : ℕ → List ℕ → Meaning
-image = laid (record { read = true; write = false; speculative = false })
+image = laid readOnly
+
+-- flat memory has all rights
+abbrev pub flat : ℕ → List ℕ → Meaning
+flat = laid allRights
 
 -- past the top address there is nothing
 pub laid-bounded : (rights : Rights) (base : ℕ) (bytes : List ℕ) (a : ℕ) → 2 ^ 64 ≤ a → laid rights base bytes a ≡ nowhere
@@ -31,4 +41,7 @@ laid-bounded rights base bytes a h =
     cond-false _ _ _ (and-right (leb base a) _ past)
 
 abbrev pub image-bounded : (base : ℕ) (bytes : List ℕ) (a : ℕ) → 2 ^ 64 ≤ a → image base bytes a ≡ nowhere
-image-bounded = laid-bounded _
+image-bounded = laid-bounded readOnly
+
+abbrev pub flat-bounded : (base : ℕ) (bytes : List ℕ) (a : ℕ) → 2 ^ 64 ≤ a → flat base bytes a ≡ nowhere
+flat-bounded = laid-bounded allRights
