@@ -12,10 +12,11 @@ use Rattle.std.proofs.shelf.Ways.{tells}
 use Rattle.memory.specs.declared.access.Right.the-variants.{Write}
 use Rattle.memory.specs.declared.access.Rights.{Rights}
 use Rattle.memory.specs.declared.access.Size.{Size}
-use Rattle.memory.specs.Access.{bytesOf}
-use Rattle.memory.specs.Meaning.{Meaning, Location, nowhere, granted, put, replaced, storeAnswer, stored}
+use Rattle.memory.specs.Access.{bytesOf, has}
+use Rattle.memory.specs.Meaning.{Meaning, Location, nowhere, each, granted, put, replaced, storeAnswer, stored}
 use Rattle.memory.specs.Kinds.{inside, laid}
-use Rattle.memory.proofs.Laid.{laid-in, laid-out}
+use Rattle.memory.proofs.Laid.{laid-in, laid-out, granted-covered}
+use Rattle.memory.proofs.Ranges.{some-bytes}
 use Rattle.memory.proofs.Puts.{replaced-in, replaced-out}
 
 module _ (m : Meaning) (a : ℕ) (size : Size) (v : ℕ) where
@@ -63,3 +64,13 @@ laid-put rights base old new a n v len low high top is = fun-ext (λ x. ⊎-elim
         let i : inside base (length new) x ≡ false = ap (λ k. inside base k x) len ∙ e in
         let o : (x < a) ⊎ (a + n ≤ x) = grind (arith, tells) in
         laid-out rights base new x i ∙ sym (laid-out rights base old x e) ∙ sym (put-out m a n v x o)
+
+-- a store into such bytes: either they do not cover it, or the word is put at its place
+module _ (base : ℕ) (bytes : List ℕ) (a : ℕ) (size : Size) (v : ℕ) (rights : Rights) (can : has rights Write ≡ true) where
+  pub bytes-refused : false ≡ each (inside base (length bytes)) a (bytesOf size) → (Err (record { address = a }) ≡ storeAnswer (laid rights base bytes) a size) × (laid rights base bytes ≡ stored (laid rights base bytes) a size v)
+  bytes-refused e = store-refused _ a size v (granted-covered rights base bytes Write a _ _ (some-bytes size) can e)
+
+  pub bytes-done : (new : List ℕ) → true ≡ each (inside base (length bytes)) a (bytesOf size) → length new ≡ length bytes → (base ≤ a) × (a + bytesOf size ≤ base + length bytes) × (a + bytesOf size ≤ 2 ^ 64) → ((k : ℕ) → getD new k 0 ≡ replaced (λ i. getD bytes i 0) (a - base) (bytesOf size) v k) → (Ok tt ≡ storeAnswer (laid rights base bytes) a size) × (laid rights base new ≡ stored (laid rights base bytes) a size v)
+  bytes-done new e len i is =
+      store-done _ a size v _ (granted-covered rights base bytes Write a _ _ (some-bytes size) can e)
+      (laid-put rights base bytes new a (bytesOf size) v len (i .0) (i .1) (i .2) is)

@@ -1,3 +1,4 @@
 pub mod Access
-pub mod Meaning
 pub mod Kinds
+pub mod Meaning
+pub mod Refusals

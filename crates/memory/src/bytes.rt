@@ -5,7 +5,7 @@ ghost use Prim.Native.Nat.{ℕ, _+_, _^_, _≤_};
 ghost use lib.ListN.{length, getD};
 ghost use Rattle.memory.specs.Access.{bytesOf, has as hasRight};
 ghost use Rattle.memory.specs.Kinds.{inside, laid};
-ghost use Rattle.memory.specs.Meaning.{each, loaded, replaced, word};
+ghost use Rattle.memory.specs.Meaning.{each, loaded, replaced, storeAnswer, stored, word};
 use crate::access::MissingRight;
 use crate::access::Right;
 use crate::access::Rights;
@@ -59,12 +59,7 @@ pub(crate) fn word_at(bytes: &[u8], at: usize, size: Size) -> u64
 }
 
 // A load from bytes that lie from `base` up and can be read.
-pub(crate) fn load_from(
-    base: u64,
-    bytes: &[u8],
-    address: u64,
-    size: Size,
-) -> Result<u64, MissingRight>
+pub fn load_from(base: u64, bytes: &[u8], address: u64, size: Size) -> Result<u64, MissingRight>
     ensures { λ r. ⌜ ((rights : Rights) → hasRight rights Right.Read ≡ true → r ≡ loaded (laid rights base (now (bytes .entry))) address size) ⌝ }
 {
     if !covers(base, bytes.len(), address, size) {
@@ -85,4 +80,22 @@ pub(crate) fn put_at(bytes: &mut [u8], at: usize, size: Size, value: u64)
         Size::Four => bytes[at..at + 4].copy_from_slice(&all[0..4]),
         Size::Eight => bytes[at..at + 8].copy_from_slice(&all[0..8]),
     }
+}
+
+// A store into bytes that lie from `base` up and can be written.
+pub fn store_into(
+    base: u64,
+    bytes: &mut [u8],
+    address: u64,
+    size: Size,
+    value: u64,
+) -> Result<(), MissingRight>
+    ensures answer { λ r. ⌜ ((rights : Rights) → hasRight rights Right.Write ≡ true → r ≡ storeAnswer (laid rights base (now (bytes .entry))) address size) ⌝ }
+    ensures after { λ _. ⌜ ((rights : Rights) → hasRight rights Right.Write ≡ true → laid rights base (now (bytes .exit)) ≡ stored (laid rights base (now (bytes .entry))) address size value) ⌝ }
+{
+    if !covers(base, bytes.len(), address, size) {
+        return Err(MissingRight { address });
+    }
+    put_at(bytes, (address - base) as usize, size, value);
+    Ok(())
 }

@@ -7,7 +7,7 @@ use crate::access::Right;
 use crate::access::Size;
 use crate::bytes::covers;
 use crate::bytes::load_from;
-use crate::bytes::put_at;
+use crate::bytes::store_into;
 use crate::readable::Readable;
 use crate::writable::Writable;
 
@@ -43,11 +43,6 @@ pub impl Readable for Flat<'_> as FlatReadable {
 
 pub impl Writable for Flat<'_> as FlatWritable {
     fn store(&mut self, address: u64, size: Size, value: u64) -> Result<(), MissingRight> {
-        if !covers(self.base, self.bytes.len(), address, size) {
-            return Err(MissingRight { address });
-        }
-        let at = (address - self.base) as usize;
-        put_at(self.bytes, at, size, value);
-        Ok(())
+        store_into(self.base, self.bytes, address, size, value)
     }
 }
