@@ -1,4 +1,5 @@
 pub mod Laid
+pub mod Loads
 pub mod Puts
 pub mod Ranges
 pub mod Stores

@@ -2,11 +2,13 @@
 use mathlib.Core.Path.{_≡_, refl, sym, ap, _∙_}
 use mathlib.Core.Bool.{Bool, true, false, _&&_}
 use Prim.Native.Nat.{ℕ, zero, suc, _+_, _-_, _*_, _^_, _≤_, _<_, min}
+use native.Mathlib.Nat.{add-zero}
+use native.Mathlib.Numerals.{add-one}
 use native.Mathlib.Omega.{arith}
 use lib.Dec.{leb, ltb}
 use mathlib.Core.Logic.{⊎-elim}
 use Rattle.std.specs.Orderings.{Decides}
-use Rattle.std.proofs.shelf.Tests.{cases-lt}
+use Rattle.std.proofs.shelf.Tests.{and-from, cases-lt, cases-bool, both-ways}
 use Rattle.std.proofs.shelf.Ways.{decides-below-and, decides-and, decides-like, same-from-decides, tells}
 use Rattle.memory.specs.declared.access.Size.{Size}
 use Rattle.memory.specs.declared.access.Size.the-variants.{One, Two, Four, Eight}
@@ -19,6 +21,12 @@ some-bytes One = omega arith
 some-bytes Two = omega arith
 some-bytes Four = omega arith
 some-bytes Eight = omega arith
+
+pub few-bytes : (s : Size) → bytesOf s ≤ 8
+few-bytes One = omega arith
+few-bytes Two = omega arith
+few-bytes Four = omega arith
+few-bytes Eight = omega arith
 
 -- a test of each address says what the test says of each
 pub each-decides : (test : ℕ → Bool) (P : ℕ → Type 0) → ((a : ℕ) → Decides (test a) (P a)) → (address n : ℕ) → Decides (each test address n) ((k : ℕ) → k < n → P (address + k))
@@ -76,3 +84,35 @@ each-split test a n k = same-from-decides _ _ whole (decides-like _ join split (
 
     split : ((i : ℕ) → i < n + k → P (a + i)) → ((i : ℕ) → i < n → P (a + i)) × ((i : ℕ) → i < k → P (a + n + i))
     split h = (λ i l. h i (omega arith), λ i l. let e : a + (n + i) ≡ a + n + i = omega arith in rw e at (h (n + i) (omega arith)))
+
+-- tests of ranges that agree byte by byte are equal, wherever they stand
+pub each-same : (f g : ℕ → Bool) (a b n : ℕ) → ((k : ℕ) → k < n → f (a + k) ≡ g (b + k)) → each f a n ≡ each g b n
+unfolding each
+each-same f g a b zero same = refl
+each-same f g a b (suc n) same =
+    let front = each-same f g a b n (λ k h. same k (omega arith)) in
+    let last = same n (omega arith) in
+    cc
+
+-- a test that holds of a range holds at each address
+pub each-at : (test : ℕ → Bool) (a n k : ℕ) → k < n → each test a n ≡ true → test (a + k) ≡ true
+each-at test a n k h t = each-decides test (λ x. test x ≡ true) (λ x. (λ p. p, λ p. p)) a n .0 t k h
+
+-- a test that fails at one address fails
+pub each-fail : (test : ℕ → Bool) (a n k : ℕ) → k < n → test (a + k) ≡ false → false ≡ each test a n
+each-fail test a n k h e = ⊎-elim (λ t. absurd (refuted t)) sym (cases-bool (each test a n))
+  where
+    refuted : each test a n ≡ true → ⊥
+    refuted t = both-ways (test (a + k)) e (each-at test a n k h t)
+
+pub each-first : (test : ℕ → Bool) (a n : ℕ) → 0 < n → test a ≡ false → false ≡ each test a n
+each-first test a n some e = each-fail test a n 0 some (ap test (add-zero a) ∙ e)
+
+-- a test of one address more
+pub each-none : (test : ℕ → Bool) (a : ℕ) → true ≡ each test a 0
+unfolding each
+each-none test a = refl
+
+pub each-more : (test : ℕ → Bool) (a n : ℕ) → true ≡ each test a n → test (a + n) ≡ true → true ≡ each test a (n + 1)
+unfolding each
+each-more test a n e t = rw add-one (sym (and-from (test (a + n)) _ t (sym e)))

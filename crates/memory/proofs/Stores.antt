@@ -1,14 +1,17 @@
 -- What a store answers and leaves, for any memory and for bytes that lie from a base up.
 use mathlib.Core.Path.{_≡_, refl, sym, ap, _∙_, fun-ext}
-use mathlib.Core.Bool.{true, false, cond, _&&_}
+use mathlib.Core.Bool.{Bool, true, false, cond, _&&_}
 use mathlib.Core.List.{List}
 use mathlib.Core.Logic.{_⊎_, inl, inr, ⊎-elim}
 use Prim.Native.Nat.{ℕ, _+_, _-_, _/_, _%_, _^_, _≤_, _<_}
+use native.Mathlib.Nat.{div-one}
 use native.Mathlib.Omega.{arith}
 use lib.ListN.{length, getD}
+use Rattle.std.specs.declared.result.Result.{Result}
 use Rattle.std.specs.declared.result.Result.the-variants.{Ok, Err}
-use Rattle.std.proofs.shelf.Tests.{cases-bool, cases-lt, cond-true, cond-false}
+use Rattle.std.proofs.shelf.Tests.{cases-bool, cases-eq, cases-lt, cond-true, cond-false}
 use Rattle.std.proofs.shelf.Ways.{tells}
+use Rattle.memory.specs.declared.access.MissingRight.{MissingRight}
 use Rattle.memory.specs.declared.access.Right.the-variants.{Write}
 use Rattle.memory.specs.declared.access.Rights.{Rights}
 use Rattle.memory.specs.declared.access.Size.{Size}
@@ -65,12 +68,55 @@ laid-put rights base old new a n v len low high top is = fun-ext (λ x. ⊎-elim
         let o : (x < a) ⊎ (a + n ≤ x) = grind (arith, tells) in
         laid-out rights base new x i ∙ sym (laid-out rights base old x e) ∙ sym (put-out m a n v x o)
 
--- a store into such bytes: either they do not cover it, or the word is put at its place
+-- bytes that can be written take a store if they cover it
 module _ (base : ℕ) (bytes : List ℕ) (a : ℕ) (size : Size) (v : ℕ) (rights : Rights) (can : has rights Write ≡ true) where
-  pub bytes-refused : false ≡ each (inside base (length bytes)) a (bytesOf size) → (Err (record { address = a }) ≡ storeAnswer (laid rights base bytes) a size) × (laid rights base bytes ≡ stored (laid rights base bytes) a size v)
-  bytes-refused e = store-refused _ a size v (granted-covered rights base bytes Write a _ _ (some-bytes size) can e)
+  covered-granted : each (inside base (length bytes)) a (bytesOf size) ≡ granted (laid rights base bytes) Write a (bytesOf size)
+  covered-granted = granted-covered rights base bytes Write a (bytesOf size) _ (some-bytes size) can refl
 
-  pub bytes-done : (new : List ℕ) → true ≡ each (inside base (length bytes)) a (bytesOf size) → length new ≡ length bytes → (base ≤ a) × (a + bytesOf size ≤ base + length bytes) × (a + bytesOf size ≤ 2 ^ 64) → ((k : ℕ) → getD new k 0 ≡ replaced (λ i. getD bytes i 0) (a - base) (bytesOf size) v k) → (Ok tt ≡ storeAnswer (laid rights base bytes) a size) × (laid rights base new ≡ stored (laid rights base bytes) a size v)
-  bytes-done new e len i is =
-      store-done _ a size v _ (granted-covered rights base bytes Write a _ _ (some-bytes size) can e)
-      (laid-put rights base bytes new a (bytesOf size) v len (i .0) (i .1) (i .2) is)
+  pub laid-answer : (r : Result (Unit {0}) MissingRight) → r ≡ cond (each (inside base (length bytes)) a (bytesOf size)) (Ok tt) (Err (record { address = a })) → r ≡ storeAnswer (laid rights base bytes) a size
+  laid-answer r e = e ∙ ap (λ b. cond b (Ok tt) (Err (record { address = a }))) covered-granted
+
+  pub laid-stored : (after : Meaning) → after ≡ cond (each (inside base (length bytes)) a (bytesOf size)) (put (laid rights base bytes) a (bytesOf size) v) (laid rights base bytes) → after ≡ stored (laid rights base bytes) a size v
+  laid-stored after e = e ∙ ap (λ b. cond b (put (laid rights base bytes) a (bytesOf size) v) (laid rights base bytes)) covered-granted
+
+abbrev pub answerBy : Bool → MissingRight → Result (Unit {0}) MissingRight
+answerBy t x = cond t (Ok tt) (Err x)
+
+-- which answer of a store says what of the test
+pub took : (t : Bool) (x : MissingRight) → Ok tt ≡ answerBy t x → t ≡ true
+took true x e = refl
+took false x e = absurd (let z : _≡_ {A = ℕ} 0 1 = cc in omega arith)
+
+pub refused : (t : Bool) (x y : MissingRight) → Err y ≡ answerBy t x → t ≡ false
+refused true x y e = absurd (let z : _≡_ {A = ℕ} 0 1 = cc in omega arith)
+refused false x y e = refl
+
+-- the low bytes one by one, the least significant first
+pub put-none : (m : Meaning) (a v : ℕ) → m ≡ put m a 0 v
+put-none m a v = fun-ext (λ x. sym (put-out m a 0 v x (⊎-elim inl (λ h. inr (omega arith)) (cases-lt x a))))
+
+put-more : (m : Meaning) (a n v b : ℕ) → b ≡ v / 256 ^ n % 256 → put (put m a n v) (a + n) 1 b ≡ put m a (n + 1) v
+put-more m a n v b e = fun-ext (λ x. ap (λ t. record { byte = t; rights = m x .rights }) (at x))
+  where
+    old : ℕ → ℕ
+    old x = m x .byte
+    mid : ℕ → ℕ
+    mid x = put m a n v x .byte
+    at : (x : ℕ) → replaced mid (a + n) 1 b x ≡ replaced old a (n + 1) v x
+    at x = ⊎-elim before (λ h. ⊎-elim (here h) (after h) (cases-eq x (a + n))) (cases-lt x (a + n))
+      where
+        before : x < a + n → replaced mid (a + n) 1 b x ≡ replaced old a (n + 1) v x
+        before h =
+            replaced-out mid (a + n) 1 b x (inl h) ∙ ⊎-elim (λ l. replaced-out old a n v x (inl l) ∙ sym (replaced-out old a (n + 1) v x (inl l))) (λ l. replaced-in old a n v x l h ∙ sym (replaced-in old a (n + 1) v x l (omega arith))) (cases-lt x a)
+        here : a + n ≤ x → x ≡ a + n → replaced mid (a + n) 1 b x ≡ replaced old a (n + 1) v x
+        here l q =
+            let z : x - (a + n) ≡ 0 = omega arith in
+            let k : x - a ≡ n = omega arith in
+            let small : b % 256 ≡ b = omega arith in
+            replaced-in mid (a + n) 1 b x l (omega arith) ∙ ap (λ t. b / 256 ^ t % 256) z ∙ ap (λ t. t % 256) (div-one b) ∙ small ∙ e ∙ ap (λ t. v / 256 ^ t % 256) (sym k) ∙ sym (replaced-in old a (n + 1) v x (omega arith) (omega arith))
+        after : a + n ≤ x → (x ≡ a + n → ⊥) → replaced mid (a + n) 1 b x ≡ replaced old a (n + 1) v x
+        after l ne =
+            replaced-out mid (a + n) 1 b x (inr (omega arith)) ∙ replaced-out old a n v x (inr l) ∙ sym (replaced-out old a (n + 1) v x (inr (omega arith)))
+
+pub put-next : (m mid next : Meaning) (a n v b : ℕ) → mid ≡ put m a n v → b ≡ v / 256 ^ n % 256 → next ≡ put mid (a + n) 1 b → next ≡ put m a (n + 1) v
+put-next m mid next a n v b was e is = is ∙ ap (λ f. put f (a + n) 1 b) was ∙ put-more m a n v b e

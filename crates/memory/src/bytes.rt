@@ -1,18 +1,19 @@
 // Accesses to a slice of bytes that lies from an address up.
-ghost use mathlib.Core.Bool.{true};
+ghost use mathlib.Core.Bool.{cond, true};
 ghost use mathlib.Core.Path.{_≡_};
 ghost use Prim.Native.Nat.{ℕ, _+_, _^_, _≤_};
 ghost use lib.ListN.{length, getD};
+ghost use Rattle.std.specs.declared.result.Result.the-variants.{Ok, Err};
 ghost use Rattle.memory.specs.Access.{bytesOf, has as hasRight};
 ghost use Rattle.memory.specs.Kinds.{inside, laid};
-ghost use Rattle.memory.specs.Meaning.{each, loaded, replaced, storeAnswer, stored, word};
+ghost use Rattle.memory.specs.Meaning.{each, loaded, put, replaced, word};
 use crate::access::MissingRight;
 use crate::access::Right;
 use crate::access::Rights;
 use crate::access::Size;
 
 // Whether each byte of an access is among the `len` bytes from `base` up, and none of them is past the top address.
-pub(crate) fn covers(base: u64, len: usize, address: u64, size: Size) -> bool
+pub fn covers(base: u64, len: usize, address: u64, size: Size) -> bool
     ensures value { λ r. ⌜ r ≡ each (inside base len) address (bytesOf size) ⌝ }
     ensures ends { λ r. ⌜ (r ≡ true → (base ≤ address) × (address + bytesOf size ≤ base + len) × (address + bytesOf size ≤ 2 ^ 64)) ⌝ }
 {
@@ -83,15 +84,9 @@ pub(crate) fn put_at(bytes: &mut [u8], at: usize, size: Size, value: u64)
 }
 
 // A store into bytes that lie from `base` up and can be written.
-pub fn store_into(
-    base: u64,
-    bytes: &mut [u8],
-    address: u64,
-    size: Size,
-    value: u64,
-) -> Result<(), MissingRight>
-    ensures answer { λ r. ⌜ ((rights : Rights) → hasRight rights Right.Write ≡ true → r ≡ storeAnswer (laid rights base (now (bytes .entry))) address size) ⌝ }
-    ensures after { λ _. ⌜ ((rights : Rights) → hasRight rights Right.Write ≡ true → laid rights base (now (bytes .exit)) ≡ stored (laid rights base (now (bytes .entry))) address size value) ⌝ }
+pub fn store_into(base: u64, bytes: &mut [u8], address: u64, size: Size, value: u64) -> Result<(), MissingRight>
+    ensures answer { λ r. ⌜ r ≡ cond (each (inside base (length (now (bytes .entry)))) address (bytesOf size)) (Ok tt) (Err (record { address = address })) ⌝ }
+    ensures after { λ _. ⌜ ((rights : Rights) → laid rights base (now (bytes .exit)) ≡ cond (each (inside base (length (now (bytes .entry)))) address (bytesOf size)) (put (laid rights base (now (bytes .entry))) address (bytesOf size) value) (laid rights base (now (bytes .entry)))) ⌝ }
 {
     if !covers(base, bytes.len(), address, size) {
         return Err(MissingRight { address });

@@ -11,6 +11,7 @@ pub use access::MissingRight;
 pub use access::Right;
 pub use access::Rights;
 pub use access::Size;
+pub use bytes::covers;
 pub use bytes::load_from;
 pub use bytes::store_into;
 pub use flat::Flat;

@@ -1,21 +1,17 @@
 use mathlib.Core.Path.{sym, _∙_}
 use native.Mathlib.Omega.{arith}
-use Rattle.memory.proofs.Stores.{bytes-refused, bytes-done}
+use Rattle.std.proofs.shelf.Tests.{cond-true, cond-false}
+use Rattle.memory.specs.Access.{bytesOf}
+use Rattle.memory.proofs.Stores.{laid-put}
 use Rattle.memory.proofs.bytes.store_into.Needs as need
 
 pub returns-then-not-covers : need.returns-then-not-covers
 returns-then-not-covers c =
-    let e = sym (c .if-not-covers .taken) ∙ c .covers .ensures .value in
-    record {
-      answer = λ rights h. bytes-refused _ _ _ _ (c .args .value) rights h e .0;
-      after = λ rights h. bytes-refused _ _ _ _ (c .args .value) rights h e .1;
-    }
+    let e = sym (c .covers .ensures .value) ∙ c .if-not-covers .taken in
+    record { answer = sym (cond-false _ _ _ e); after = λ rights. sym (cond-false _ _ _ e) }
 
 pub returns : need.returns
 returns c =
-    let e = sym (c .if-not-covers .left) ∙ c .covers .ensures .value in
+    let e = sym (c .covers .ensures .value) ∙ c .if-not-covers .left in
     let i = c .covers .ensures .ends (c .if-not-covers .left) in
-    record {
-      answer = λ rights h. bytes-done _ (c .args .bytes .now) _ _ (c .args .value) rights h _ e (omega arith) i (c .put-at .ensures) .0;
-      after = λ rights h. bytes-done _ (c .args .bytes .now) _ _ (c .args .value) rights h _ e (omega arith) i (c .put-at .ensures) .1;
-    }
+    record { answer = sym (cond-true _ _ _ e); after = λ rights. laid-put rights (c .args .base) (c .args .bytes .now) _ (c .args .address) (bytesOf (c .args .size)) (c .args .value) (omega arith) (i .0) (i .1) (i .2) (c .put-at .ensures) ∙ sym (cond-true _ _ _ e) }

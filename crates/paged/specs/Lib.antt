@@ -1,0 +1,3 @@
+pub mod Mapping
+pub mod Pages
+pub mod Tables
