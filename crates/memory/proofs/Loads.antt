@@ -57,10 +57,12 @@ load-gathered m a size word len same g =
   where
     few : bytesOf size ≤ 8
     few = few-bytes size
+
     covered : true ≡ granted (laid allRights 0 word) Read 0 (bytesOf size)
     covered =
         granted-covered allRights 0 word Read 0 (bytesOf size) true (some-bytes size) refl
         (let p = some-bytes size in let e = each-inside 0 (length word) 0 (bytesOf size) p in sym (e ∙ le-leb (0 + bytesOf size) _ (omega (arith, few))))
+
     words : wordAt m a (bytesOf size) ≡ wordAt (laid allRights 0 word) 0 (bytesOf size)
     words =
         word-same (λ x. m x .byte) (λ i. getD word i 0) a 0 (bytesOf size) (λ k h. sym (same k h) ∙ ap (λ i. getD word i 0) (sym (zero-add k))) ∙ sym (laid-word allRights 0 word 0 (bytesOf size) (omega arith) (omega (arith, few)) (omega (arith, few)))

@@ -100,20 +100,24 @@ put-more m a n v b e = fun-ext (λ x. ap (λ t. record { byte = t; rights = m x 
   where
     old : ℕ → ℕ
     old x = m x .byte
+
     mid : ℕ → ℕ
     mid x = put m a n v x .byte
+
     at : (x : ℕ) → replaced mid (a + n) 1 b x ≡ replaced old a (n + 1) v x
     at x = ⊎-elim before (λ h. ⊎-elim (here h) (after h) (cases-eq x (a + n))) (cases-lt x (a + n))
       where
         before : x < a + n → replaced mid (a + n) 1 b x ≡ replaced old a (n + 1) v x
         before h =
             replaced-out mid (a + n) 1 b x (inl h) ∙ ⊎-elim (λ l. replaced-out old a n v x (inl l) ∙ sym (replaced-out old a (n + 1) v x (inl l))) (λ l. replaced-in old a n v x l h ∙ sym (replaced-in old a (n + 1) v x l (omega arith))) (cases-lt x a)
+
         here : a + n ≤ x → x ≡ a + n → replaced mid (a + n) 1 b x ≡ replaced old a (n + 1) v x
         here l q =
             let z : x - (a + n) ≡ 0 = omega arith in
             let k : x - a ≡ n = omega arith in
             let small : b % 256 ≡ b = omega arith in
             replaced-in mid (a + n) 1 b x l (omega arith) ∙ ap (λ t. b / 256 ^ t % 256) z ∙ ap (λ t. t % 256) (div-one b) ∙ small ∙ e ∙ ap (λ t. v / 256 ^ t % 256) (sym k) ∙ sym (replaced-in old a (n + 1) v x (omega arith) (omega arith))
+
         after : a + n ≤ x → (x ≡ a + n → ⊥) → replaced mid (a + n) 1 b x ≡ replaced old a (n + 1) v x
         after l ne =
             replaced-out mid (a + n) 1 b x (inr (omega arith)) ∙ replaced-out old a n v x (inr l) ∙ sym (replaced-out old a (n + 1) v x (inr (omega arith)))

@@ -84,7 +84,13 @@ pub(crate) fn put_at(bytes: &mut [u8], at: usize, size: Size, value: u64)
 }
 
 // A store into bytes that lie from `base` up and can be written.
-pub fn store_into(base: u64, bytes: &mut [u8], address: u64, size: Size, value: u64) -> Result<(), MissingRight>
+pub fn store_into(
+    base: u64,
+    bytes: &mut [u8],
+    address: u64,
+    size: Size,
+    value: u64,
+) -> Result<(), MissingRight>
     ensures answer { λ r. ⌜ r ≡ cond (each (inside base (length (now (bytes .entry)))) address (bytesOf size)) (Ok tt) (Err (record { address = address })) ⌝ }
     ensures after { λ _. ⌜ ((rights : Rights) → laid rights base (now (bytes .exit)) ≡ cond (each (inside base (length (now (bytes .entry)))) address (bytesOf size)) (put (laid rights base (now (bytes .entry))) address (bytesOf size) value) (laid rights base (now (bytes .entry)))) ⌝ }
 {

@@ -133,21 +133,27 @@ module _ (table : PageTable) (bytes : List ℕ) (a : ℕ) (top : a < 2 ^ 64) (si
       where
         m : Meaning
         m = paged (pagesOf table) bytes
+
         i : ℕ
         i = found (pagesOf table) a p e .0
+
         there : indexOf (pagesOf table) a ≡ Some i
         there = found (pagesOf table) a p e .1
+
         offset : p .offset ≡ 4096 * i + (a - getD (pagesOf table) i noPage .base)
         offset = ap (λ (t : Place). t .offset) (found (pagesOf table) a p e .2)
+
         named : (x : ℕ) → a ≤ x → x < a + bytesOf size → indexOf (pagesOf table) x ≡ Some i
         named x l h =
             let z : a + (x - a) ≡ x = omega arith in
             ap (indexOf (pagesOf table)) (sym z) ∙ index-same (pagesOf table) aligned a (x - a) top (omega (arith, near)) ∙ there
+
         outside : (x : ℕ) → indexOf (pagesOf table) x ≡ None → (x < a) ⊎ (a + bytesOf size ≤ x)
         outside x none = ⊎-elim inl (λ l. ⊎-elim (λ h. absurd (never (named x l h) none)) inr (cases-lt x (a + bytesOf size))) (cases-lt x a)
           where
             never : indexOf (pagesOf table) x ≡ Some i → indexOf (pagesOf table) x ≡ None → ⊥
             never p q = let z : _≡_ {A = ℕ} 0 1 = cc in omega arith
+
         at : (x : ℕ) (o : Option ℕ) → indexOf (pagesOf table) x ≡ o → paged (pagesOf table) new x ≡ put m a (bytesOf size) v x
         at x None q =
             ap (λ t. locationAt (mapped (placed (pagesOf table) x) t) new) q ∙ sym (ap (λ t. locationAt (mapped (placed (pagesOf table) x) t) bytes) q) ∙ sym (put-out m a (bytesOf size) v x (outside x q))
@@ -156,10 +162,13 @@ module _ (table : PageTable) (bytes : List ℕ) (a : ℕ) (top : a < 2 ^ 64) (si
           where
             r : Rights
             r = getD (pagesOf table) j noPage .rights
+
             off : ℕ
             off = 4096 * j + (x - getD (pagesOf table) j noPage .base)
+
             mx : m x ≡ laid r 0 bytes off
             mx = ap (λ t. locationAt (mapped (placed (pagesOf table) x) t) bytes) q
+
             within : a ≤ x → x < a + bytesOf size → replaced (λ y. laid r 0 bytes y .byte) (p .offset) (bytesOf size) v off ≡ replaced (λ y. m y .byte) a (bytesOf size) v x
             within l h =
                 let z : i ≡ j = cc (named x l h, q) in
@@ -169,6 +178,7 @@ module _ (table : PageTable) (bytes : List ℕ) (a : ℕ) (top : a < 2 ^ 64) (si
                 let d : off ≡ p .offset + (x - a) = omega (arith, offset) in
                 let k : off - p .offset ≡ x - a = omega arith in
                 replaced-in (λ y. laid r 0 bytes y .byte) (p .offset) (bytesOf size) v off (omega arith) (omega arith) ∙ ap (λ t. v / 256 ^ t % 256) k ∙ sym (replaced-in (λ y. m y .byte) a (bytesOf size) v x l h)
+
             apart : (x < a) ⊎ (a + bytesOf size ≤ x) → (off < p .offset) ⊎ (p .offset + bytesOf size ≤ off)
             apart o = ⊎-elim inl (λ l. ⊎-elim (λ h. absurd (clash l h)) inr (cases-lt off (p .offset + bytesOf size))) (cases-lt off (p .offset))
               where
@@ -184,9 +194,11 @@ module _ (table : PageTable) (bytes : List ℕ) (a : ℕ) (top : a < 2 ^ 64) (si
                     let z : i ≡ j = omega (arith, offset, near) in
                     let base : getD (pagesOf table) j noPage .base ≡ getD (pagesOf table) i noPage .base = ap (λ k. getD (pagesOf table) k noPage .base) (sym z) in
                     ⊎-elim (λ u. omega (arith, offset, near)) (λ u. omega (arith, offset, near)) o
+
             without : (x < a) ⊎ (a + bytesOf size ≤ x) → replaced (λ y. laid r 0 bytes y .byte) (p .offset) (bytesOf size) v off ≡ replaced (λ y. m y .byte) a (bytesOf size) v x
             without o =
                 replaced-out (λ y. laid r 0 bytes y .byte) (p .offset) (bytesOf size) v off (apart o) ∙ sym (ap (λ l. l .byte) mx) ∙ sym (replaced-out (λ y. m y .byte) a (bytesOf size) v x o)
+
             same : replaced (λ y. laid r 0 bytes y .byte) (p .offset) (bytesOf size) v off ≡ replaced (λ y. m y .byte) a (bytesOf size) v x
             same = ⊎-elim (λ l. without (inl l)) (λ l. ⊎-elim (within l) (λ h. without (inr h)) (cases-lt x (a + bytesOf size))) (cases-lt x a)
 
@@ -219,6 +231,6 @@ module _ (table : PageTable) (bytes : List ℕ) (a : ℕ) (top : a < 2 ^ 64) (si
 pub byte-covered : (ps : List Page) (bytes : List ℕ) (a : ℕ) (p : Place) → placeOf ps a ≡ Some p → p .offset < 2 ^ 64 → has (paged ps bytes a .rights) Write ≡ true → each (inside 0 (length bytes)) (p .offset) 1 ≡ true
 byte-covered ps bytes a p e top can =
     let here : p .offset < length bytes =
-            ⊎-elim (λ h. h) (λ h. absurd (both-ways _ (ap (λ l. has (l .rights) Write) (located-past ps bytes a p e h) ∙ has-nowhere Write) can)) (cases-lt (p .offset) (length bytes)) in
+    ⊎-elim (λ h. h) (λ h. absurd (both-ways _ (ap (λ l. has (l .rights) Write) (located-past ps bytes a p e h) ∙ has-nowhere Write) can)) (cases-lt (p .offset) (length bytes)) in
     let i = each-inside 0 (length bytes) (p .offset) 1 (omega arith) in
     grind (arith, tells)

@@ -71,18 +71,22 @@ module _ (pages : List Page) (n : ℕ) (page : Page) (whole : length pages ≡ 6
     where
       bi : ℕ
       bi = getD (set pages n page) i noPage .base
+
       bj : ℕ
       bj = getD (set pages n page) j noPage .base
+
       old : i < j → j < n → eqb bi bj ≡ false
       old l h =
           let a = apart i j in
           let e : bi ≡ getD pages i noPage .base = ap (λ p. p .base) (before i (omega arith)) in
           let f : bj ≡ getD pages j noPage .base = ap (λ p. p .base) (before j h) in
           ne-eqb bi bj (λ same. grind (arith, tells))
+
       last : i < j → j ≡ n → eqb bi bj ≡ false
       last l h =
           let e : bi ≡ getD pages i noPage .base = ap (λ p. p .base) (before i (omega arith)) in
           let f : bj ≡ page .base = ap (λ k. getD (set pages n page) k noPage .base) h ∙ ap (λ p. p .base) at-end in
           ne-eqb bi bj (λ same. new i (omega arith) (sym e ∙ same ∙ f))
+
       differ : i < j → j < n + 1 → clash (set pages n page) (n + 1) i j ≡ false
       differ l h = and-right (ltb i j && ltb j (n + 1)) _ (⊎-elim (last l) (λ ne. old l (omega arith)) (cases-eq j n))

@@ -76,7 +76,7 @@ module _ (pages : List Page) (n : ℕ) (few : n ≤ length pages) (aligned : (i 
       let len = length-first in
       let is : inside (getD (take n pages) i noPage .base) 4096 a ≡ true = ap (λ p. inside (p .base) 4096 a) (getD-take n pages i noPage h) ∙ holds _ a top here in
       let none : (j : ℕ) → j < i → inside (getD (take n pages) j noPage .base) 4096 a ≡ false =
-              λ j l. ap (λ p. inside (p .base) 4096 a) (getD-take n pages j noPage (omega arith)) ∙ holds-not _ a (aligned j (omega arith)) (before j l) in
+      λ j l. ap (λ p. inside (p .base) 4096 a) (getD-take n pages j noPage (omega arith)) ∙ holds-not _ a (aligned j (omega arith)) (before j l) in
       sym (index-at (take n pages) a i (omega arith) is none)
 
   pub found-none : ((j : ℕ) → j < n → getD pages j noPage .base ≡ a - a % 4096 → ⊥) → None ≡ indexOf (take n pages) a

@@ -25,16 +25,27 @@ pub struct PageTable {
     ghost apart: { (i j : ℕ) → clash pages count i j ≡ false },
 }
 
-const NO_RIGHTS: Rights = Rights { read: false, write: false, speculative: false };
+const NO_RIGHTS: Rights = Rights {
+    read: false,
+    write: false,
+    speculative: false,
+};
 
-const NO_PAGE: Page = Page { base: 0, rights: NO_RIGHTS };
+const NO_PAGE: Page = Page {
+    base: 0,
+    rights: NO_RIGHTS,
+};
 
 impl PageTable {
     // A table with no page.
     pub(crate) fn new() -> PageTable
         ensures { λ r. ⌜ take (r .count) (r .pages) ≡ [] ⌝ }
     {
-        PageTable { pages: [NO_PAGE; 64], count: 0, hints: [0; 64] }
+        PageTable {
+            pages: [NO_PAGE; 64],
+            count: 0,
+            hints: [0; 64],
+        }
     }
 
     // The page at a place.
@@ -98,7 +109,10 @@ impl PageTable {
             Some(i) => {
                 let page = self.page(i);
                 let offset = 4096 * i as u64 + (address - page.base);
-                Some(Place { offset, rights: page.rights })
+                Some(Place {
+                    offset,
+                    rights: page.rights,
+                })
             }
             None => None,
         }
