@@ -18,11 +18,11 @@ use memory::covers;
 use memory::load_from;
 use memory::store_into;
 
-// Pages over bytes of the caller. They are mapped before; from now on they stay.
+// The pages of a table over bytes of the caller.
 #[derive(Drop)]
 pub struct Paged<'a> {
-    pub(crate) table: PageTable,
-    pub(crate) bytes: &'a mut [u8],
+    table: &'a PageTable,
+    bytes: &'a mut [u8],
 }
 
 // Whether an access passes the end of a page.
@@ -32,10 +32,19 @@ fn crosses(address: u64, size: Size) -> bool
     4096 - address % 4096 < size.bytes()
 }
 
+impl<'a> Paged<'a> {
+    // The pages of the table, each over its bytes: the first page over the first 4,096, and so on.
+    pub fn new(table: &'a PageTable, bytes: &'a mut [u8]) -> Paged<'a>
+        ensures { λ r. ⌜ paged (pagesOf (now (r .table))) (now (r .bytes)) ≡ paged (pagesOf (now (table .entry))) (now (bytes .entry)) ⌝ }
+    {
+        Paged { table, bytes }
+    }
+}
+
 impl Paged<'_> {
     // Whether the byte at the address has the right.
     fn byte_grants(&self, right: Right, address: u64) -> bool
-        ensures { λ r. ⌜ r ≡ hasRight (paged (pagesOf (now (self .entry) .table)) (now (now (self .entry) .bytes)) address .rights) right ⌝ }
+        ensures { λ r. ⌜ r ≡ hasRight (paged (pagesOf (now (now (self .entry) .table))) (now (now (self .entry) .bytes)) address .rights) right ⌝ }
     {
         let Some(place) = self.table.locate(address) else {
             return false;
@@ -48,7 +57,7 @@ impl Paged<'_> {
 
     // The byte at the address; 0 where there is none.
     fn byte(&self, address: u64) -> u8
-        ensures { λ r. ⌜ r ≡ paged (pagesOf (now (self .entry) .table)) (now (now (self .entry) .bytes)) address .byte ⌝ }
+        ensures { λ r. ⌜ r ≡ paged (pagesOf (now (now (self .entry) .table))) (now (now (self .entry) .bytes)) address .byte ⌝ }
     {
         let Some(place) = self.table.locate(address) else {
             return 0;
@@ -61,7 +70,7 @@ impl Paged<'_> {
 
     // Whether each byte of an access that may pass the end of a page has the right.
     fn grants_across(&self, right: Right, address: u64, size: Size) -> bool
-        ensures { λ r. ⌜ r ≡ granted (paged (pagesOf (now (self .entry) .table)) (now (now (self .entry) .bytes))) right address (bytesOf size) ⌝ }
+        ensures { λ r. ⌜ r ≡ granted (paged (pagesOf (now (now (self .entry) .table))) (now (now (self .entry) .bytes))) right address (bytesOf size) ⌝ }
     {
         for i in 0..size.bytes() {
             let Some(at) = address.checked_add(i) else {
@@ -76,7 +85,7 @@ impl Paged<'_> {
 
     // A load that may pass the end of a page, byte by byte.
     fn load_across(&self, address: u64, size: Size) -> Result<u64, MissingRight>
-        ensures { λ r. ⌜ r ≡ loaded (paged (pagesOf (now (self .entry) .table)) (now (now (self .entry) .bytes))) address size ⌝ }
+        ensures { λ r. ⌜ r ≡ loaded (paged (pagesOf (now (now (self .entry) .table))) (now (now (self .entry) .bytes))) address size ⌝ }
     {
         if !self.grants_across(Right::Read, address, size) {
             return Err(MissingRight { address });
@@ -90,8 +99,8 @@ impl Paged<'_> {
 
     // Puts a byte at an address that may be written.
     fn put_byte(&mut self, address: u64, byte: u8)
-        ensures table { λ _. ⌜ now (self .exit) .table ≡ now (self .entry) .table ⌝ }
-        ensures after { λ _. ⌜ (hasRight (paged (pagesOf (now (self .entry) .table)) (now (now (self .entry) .bytes)) address .rights) Right.Write ≡ true → paged (pagesOf (now (self .exit) .table)) (now (now (self .exit) .bytes)) ≡ put (paged (pagesOf (now (self .entry) .table)) (now (now (self .entry) .bytes))) address 1 byte) ⌝ }
+        ensures table { λ _. ⌜ now (now (self .exit) .table) ≡ now (now (self .entry) .table) ⌝ }
+        ensures after { λ _. ⌜ (hasRight (paged (pagesOf (now (now (self .entry) .table))) (now (now (self .entry) .bytes)) address .rights) Right.Write ≡ true → paged (pagesOf (now (now (self .exit) .table))) (now (now (self .exit) .bytes)) ≡ put (paged (pagesOf (now (now (self .entry) .table))) (now (now (self .entry) .bytes))) address 1 byte) ⌝ }
     {
         let Some(place) = self.table.locate(address) else {
             return;
@@ -101,8 +110,8 @@ impl Paged<'_> {
 
     // A store that may pass the end of a page, byte by byte.
     fn store_across(&mut self, address: u64, size: Size, value: u64) -> Result<(), MissingRight>
-        ensures answer { λ r. ⌜ r ≡ storeAnswer (paged (pagesOf (now (self .entry) .table)) (now (now (self .entry) .bytes))) address size ⌝ }
-        ensures after { λ _. ⌜ paged (pagesOf (now (self .exit) .table)) (now (now (self .exit) .bytes)) ≡ stored (paged (pagesOf (now (self .entry) .table)) (now (now (self .entry) .bytes))) address size value ⌝ }
+        ensures answer { λ r. ⌜ r ≡ storeAnswer (paged (pagesOf (now (now (self .entry) .table))) (now (now (self .entry) .bytes))) address size ⌝ }
+        ensures after { λ _. ⌜ paged (pagesOf (now (now (self .exit) .table))) (now (now (self .exit) .bytes)) ≡ stored (paged (pagesOf (now (now (self .entry) .table))) (now (now (self .entry) .bytes))) address size value ⌝ }
     {
         if !self.grants_across(Right::Write, address, size) {
             return Err(MissingRight { address });
@@ -116,9 +125,9 @@ impl Paged<'_> {
 }
 
 pub impl Readable for Paged<'_> as PagedReadable {
-    ghost meaning = { λ s. paged (pagesOf (s .table)) (held (s .bytes)) };
+    ghost meaning = { λ s. paged (pagesOf (held (s .table))) (held (s .bytes)) };
 
-    ghost bounded = { λ s. pagedBounded (pagesOf (s .table)) (held (s .bytes)) };
+    ghost bounded = { λ s. pagedBounded (pagesOf (held (s .table))) (held (s .bytes)) };
 
     fn load(&self, address: u64, size: Size) -> Result<u64, MissingRight> {
         if crosses(address, size) {

@@ -8,3 +8,4 @@ pub use kind::Paged;
 pub use kind::PagedReadable;
 pub use kind::PagedWritable;
 pub use map::PageMap;
+pub use table::PageTable;

@@ -7,9 +7,9 @@ use Rattle.paged.proofs.kind.Paged.byte.Needs as need
 pub returns-then-place-self : need.returns-then-place-self
 returns-then-place-self c =
     let s = c .args .self .now in
-    sym (ap (λ l. l .byte) (located-past (pagesOf (s .table)) (s .bytes .now) (c .args .address) (c .in-Some .place) (sym (c .locate .ensures) ∙ c .in-Some .is) (c .if-place-self .taken)))
+    sym (ap (λ l. l .byte) (located-past (pagesOf (s .table .now)) (s .bytes .now) (c .args .address) (c .in-Some .place) (sym (c .locate .ensures) ∙ c .in-Some .is) (c .if-place-self .taken)))
 
 pub returns : need.returns
 returns c =
     let s = c .args .self .now in
-    sym (ap (λ l. l .byte) (located-in (pagesOf (s .table)) (s .bytes .now) (c .args .address) (c .in-Some .place) (sym (c .locate .ensures) ∙ c .in-Some .is) (c .if-place-self .left) (omega arith)))
+    sym (ap (λ l. l .byte) (located-in (pagesOf (s .table .now)) (s .bytes .now) (c .args .address) (c .in-Some .place) (sym (c .locate .ensures) ∙ c .in-Some .is) (c .if-place-self .left) (omega arith)))

@@ -9,9 +9,9 @@ use Rattle.paged.proofs.kind.Paged.byte_grants.Needs as need
 pub returns-then-place-self : need.returns-then-place-self
 returns-then-place-self c =
     let s = c .args .self .now in
-    sym (ap (λ l. has (l .rights) (c .args .right)) (located-past (pagesOf (s .table)) (s .bytes .now) (c .args .address) (c .in-Some .place) (sym (c .locate .ensures) ∙ c .in-Some .is) (c .if-place-self .taken)) ∙ has-nowhere (c .args .right))
+    sym (ap (λ l. has (l .rights) (c .args .right)) (located-past (pagesOf (s .table .now)) (s .bytes .now) (c .args .address) (c .in-Some .place) (sym (c .locate .ensures) ∙ c .in-Some .is) (c .if-place-self .taken)) ∙ has-nowhere (c .args .right))
 
 pub returns : need.returns
 returns c =
     let s = c .args .self .now in
-    c .has .ensures ∙ sym (ap (λ l. has (l .rights) (c .args .right)) (located-in (pagesOf (s .table)) (s .bytes .now) (c .args .address) (c .in-Some .place) (sym (c .locate .ensures) ∙ c .in-Some .is) (c .if-place-self .left) (omega arith)))
+    c .has .ensures ∙ sym (ap (λ l. has (l .rights) (c .args .right)) (located-in (pagesOf (s .table .now)) (s .bytes .now) (c .args .address) (c .in-Some .place) (sym (c .locate .ensures) ∙ c .in-Some .is) (c .if-place-self .left) (omega arith)))

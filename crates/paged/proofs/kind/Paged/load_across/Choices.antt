@@ -7,4 +7,4 @@ use Rattle.paged.proofs.kind.Paged.load_across.Given as given
 
 -- the bytes so far are read
 abbrev pub Inv-loop-i : given.InvT-loop-i
-Inv-loop-i l = (length (l .word) ≡ 8) × ((k : ℕ) → k < l .i → getD (l .word) k 0 ≡ paged (pagesOf (l .self .table)) (l .self .bytes .now) (l .address + k) .byte)
+Inv-loop-i l = (length (l .word) ≡ 8) × ((k : ℕ) → k < l .i → getD (l .word) k 0 ≡ paged (pagesOf (l .self .table .now)) (l .self .bytes .now) (l .address + k) .byte)

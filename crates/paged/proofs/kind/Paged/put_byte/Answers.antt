@@ -17,6 +17,6 @@ returns c =
     record {
       table = refl;
       after = λ can.
-          page-stores (s .table) (s .bytes .now) (c .args .address) (omega arith) One (c .in-Some .place) e stays _ (c .args .byte) (c .store-into .ensures .after)
-          (byte-covered (pagesOf (s .table)) (s .bytes .now) (c .args .address) (c .in-Some .place) e (omega arith) can);
+          page-stores (s .table .now) (s .bytes .now) (c .args .address) (omega arith) One (c .in-Some .place) e stays _ (c .args .byte) (c .store-into .ensures .after)
+          (byte-covered (pagesOf (s .table .now)) (s .bytes .now) (c .args .address) (c .in-Some .place) e (omega arith) can);
     }

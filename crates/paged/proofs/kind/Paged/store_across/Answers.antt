@@ -18,14 +18,14 @@ loop-i-holds c = put-none _ (c .args .address) (c .args .value)
 pub add-address : need.add-address
 add-address c =
     let s = c .args .self .now in
-    let m = paged (pagesOf (s .table)) (s .bytes .now) in
-    let fits = granted-fits m (paged-bounded (pagesOf (s .table)) (s .bytes .now)) Write (c .args .address) (bytesOf (c .args .size)) (some-bytes (c .args .size)) (sym (c .grants-across .ensures) ∙ c .if-not-grants-across .left) in
+    let m = paged (pagesOf (s .table .now)) (s .bytes .now) in
+    let fits = granted-fits m (paged-bounded (pagesOf (s .table .now)) (s .bytes .now)) Write (c .args .address) (bytesOf (c .args .size)) (some-bytes (c .args .size)) (sym (c .grants-across .ensures) ∙ c .if-not-grants-across .left) in
     omega arith
 
 pub loop-i-again : need.loop-i-again
 loop-i-again c =
     let s = c .args .self .now in
-    let m = paged (pagesOf (s .table)) (s .bytes .now) in
+    let m = paged (pagesOf (s .table .now)) (s .bytes .now) in
     let i = c .loop-i .i in
     let a = c .args .address in
     let few = few-bytes (c .args .size) in

@@ -8,4 +8,4 @@ use Rattle.paged.proofs.kind.Paged.store_across.Given as given
 -- the bytes so far are stored
 abbrev pub Inv-loop-i : given.InvT-loop-i
 Inv-loop-i l =
-    paged (pagesOf (l .self .table)) (l .self .bytes .now) ≡ put (paged (pagesOf (l .entry .self .table)) (l .entry .self .bytes .now)) (l .address) (l .i) (l .value)
+    paged (pagesOf (l .self .table .now)) (l .self .bytes .now) ≡ put (paged (pagesOf (l .entry .self .table .now)) (l .entry .self .bytes .now)) (l .address) (l .i) (l .value)

@@ -11,23 +11,23 @@ use Rattle.paged.proofs.kind.PagedReadable.load.Needs as need
 pub returns-in-rest : need.returns-in-rest
 returns-in-rest c =
     let s = c .args .self .now in
-    load-refused (paged (pagesOf (s .table)) (s .bytes .now)) (c .args .address) (c .args .size)
-    (granted-none (s .table) (s .bytes .now) (c .args .address) (omega arith) (c .args .size) (sym (c .locate .ensures) ∙ c .in-rest .is) Read)
+    load-refused (paged (pagesOf (s .table .now)) (s .bytes .now)) (c .args .address) (c .args .size)
+    (granted-none (s .table .now) (s .bytes .now) (c .args .address) (omega arith) (c .args .size) (sym (c .locate .ensures) ∙ c .in-rest .is) Read)
 
 pub returns-then-not-place : need.returns-then-not-place
 returns-then-not-place c =
     let s = c .args .self .now in
-    load-refused (paged (pagesOf (s .table)) (s .bytes .now)) (c .args .address) (c .args .size)
-    (page-denies (s .table) (s .bytes .now) (c .args .address) (omega arith) (c .args .size) (c .in-Some .place) (sym (c .locate .ensures) ∙ c .in-Some .is) (sym (c .crosses .ensures) ∙ c .if-crosses .left) Read (not-true _ (c .if-not-place .taken)))
+    load-refused (paged (pagesOf (s .table .now)) (s .bytes .now)) (c .args .address) (c .args .size)
+    (page-denies (s .table .now) (s .bytes .now) (c .args .address) (omega arith) (c .args .size) (c .in-Some .place) (sym (c .locate .ensures) ∙ c .in-Some .is) (sym (c .crosses .ensures) ∙ c .if-crosses .left) Read (not-true _ (c .if-not-place .taken)))
 
 pub returns-in-Ok : need.returns-in-Ok
 returns-in-Ok c =
     let s = c .args .self .now in
-    page-loads (s .table) (s .bytes .now) (c .args .address) (omega arith) (c .args .size) (c .in-Some .place) (sym (c .locate .ensures) ∙ c .in-Some .is) (sym (c .crosses .ensures) ∙ c .if-crosses .left) _
+    page-loads (s .table .now) (s .bytes .now) (c .args .address) (omega arith) (c .args .size) (c .in-Some .place) (sym (c .locate .ensures) ∙ c .in-Some .is) (sym (c .crosses .ensures) ∙ c .if-crosses .left) _
     (c .in-Ok .ensures tt (c .in-Some .place .rights) (not-false _ (c .if-not-place .left)))
 
 pub returns-in-Err : need.returns-in-Err
 returns-in-Err c =
     let s = c .args .self .now in
-    page-loads-not (s .table) (s .bytes .now) (c .args .address) (omega arith) (c .args .size) (c .in-Some .place) (sym (c .locate .ensures) ∙ c .in-Some .is) (sym (c .crosses .ensures) ∙ c .if-crosses .left) _
+    page-loads-not (s .table .now) (s .bytes .now) (c .args .address) (omega arith) (c .args .size) (c .in-Some .place) (sym (c .locate .ensures) ∙ c .in-Some .is) (sym (c .crosses .ensures) ∙ c .if-crosses .left) _
     (c .in-Err .ensures tt (c .in-Some .place .rights) (not-false _ (c .if-not-place .left)))
