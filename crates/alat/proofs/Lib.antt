@@ -1,0 +1,5 @@
+pub mod Ageing
+pub mod Held
+pub mod Placing
+pub mod Sharing
+pub mod Shifting
