@@ -10,8 +10,8 @@ use lib.ListN.{take}
 use Rattle.std.specs.shelf.Lists.{kept-by}
 use Rattle.std.proofs.shelf.Tests.{cases-bool, cases-lt, cond-true, cond-false, cond-both, both-ways, eqb-false, ne-eqb, ltb-true, lt-ltb, and-parts, and-from, not-true, not-from-false}
 use Rattle.memory.specs.Access.{bytesOf}
+use Rattle.memory.proofs.Ranges.{some-bytes}
 use Rattle.memory.specs.declared.access.Size.{Size}
-use Rattle.memory.specs.declared.access.Size.the-variants.{One, Two, Four, Eight}
 use Rattle.alat.specs.declared.entry.Entry.{Entry}
 use Rattle.alat.specs.Table.{In, OneEach, Repeated, SharesByte, sharesByte, others, untouched}
 
@@ -113,12 +113,6 @@ pub in-others : (cell : ℕ) (es : List Entry) (x : Entry) → In x (others cell
 in-others cell es x i = let k = in-kept _ es x i in (k .0, other-cell cell x (k .1))
 
 -- entries that share no byte
-
-pub some-bytes : (s : Size) → 0 < bytesOf s
-some-bytes One = omega arith
-some-bytes Two = omega arith
-some-bytes Four = omega arith
-some-bytes Eight = omega arith
 
 -- where each begins before the other ends, they share the byte at which the later one begins
 pub common : (e : Entry) (address : ℕ) (size : Size) → address < e .address + bytesOf (e .size) → e .address < address + bytesOf size → SharesByte e address size

@@ -41,6 +41,7 @@ impl PageMap {
     pub fn finish(self) -> PageTable
         ensures { λ r. ⌜ pagesOf r ≡ pagesOf (self .table) ⌝ }
     {
-        self.table
+        let PageMap { table, room: _ } = self;
+        table
     }
 }

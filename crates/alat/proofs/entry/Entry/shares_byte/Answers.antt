@@ -3,7 +3,7 @@ use Prim.Native.Nat.{_-_}
 use lib.Dec.{ltb}
 use Rattle.memory.specs.Access.{bytesOf}
 use Rattle.alat.specs.Table.{sharesByte}
-use Rattle.alat.specs.Bounds.{some-bytes}
+use Rattle.memory.proofs.Ranges.{some-bytes}
 use Rattle.alat.proofs.Sharing.{from-below, from-above, shares}
 use Rattle.alat.proofs.entry.Entry.shares_byte.Needs as need
 
