@@ -1,10 +1,7 @@
 -- The bit fields of a bundle.
-use Prim.Native.Nat.{ℕ, _+_, _*_, _/_, _%_, _^_}
+use Prim.Native.Nat.{ℕ, _+_, _*_, _^_}
+use Rattle.integer.specs.Words.{field}
 use Rattle.bundle.specs.declared.split.Bundle.{Bundle}
-
--- the field of `width` bits of the number n whose lowest bit is bit `first`
-abbrev pub field : ℕ → ℕ → ℕ → ℕ
-field n first width = n / 2 ^ first % 2 ^ width
 
 -- the 128 bits of a bundle as one number
 abbrev pub bits : Bundle → ℕ

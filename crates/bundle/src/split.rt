@@ -2,7 +2,8 @@
 ghost use mathlib.Core.Path.{_≡_};
 ghost use Prim.Native.Nat.{_^_, _<_};
 ghost use Rattle.bundle.specs.Fetching.{fetched};
-ghost use Rattle.bundle.specs.Fields.{bits, field, slot};
+ghost use Rattle.bundle.specs.Fields.{bits, slot};
+ghost use Rattle.integer.specs.Words.{field};
 use memory::MissingRight;
 use memory::Readable;
 use memory::Size;

@@ -10,7 +10,8 @@ use Rattle.std.specs.declared.option.Option.the-variants.{Some, None}
 use Rattle.bundle.specs.declared.split.Bundle.{Bundle}
 use Rattle.bundle.specs.declared.template.Template.{Template}
 use Rattle.bundle.specs.declared.template.Unit.the-variants.{Memory}
-use Rattle.bundle.specs.Fields.{bits, field, slot}
+use Rattle.bundle.specs.Fields.{bits, slot}
+use Rattle.integer.specs.Words.{field}
 use Rattle.bundle.specs.Templates.{templateOf, letterOf}
 
 -- the digit of a number below 16: 0 to 9, A to F

@@ -4,7 +4,7 @@ use lib.ListN.{length}
 use mathlib.Core.Path.{_≡_}
 use Rattle.std.proofs.shelf.Counted.{fill-by-all}
 use Rattle.std.proofs.shelf.Edits.{fill-by-more}
-use Rattle.bundle.specs.Fields.{field}
+use Rattle.integer.specs.Words.{field}
 use Rattle.listing.specs.Text.{hexDigit, hexText}
 use Rattle.listing.proofs.hex.write_hex.Needs as need
 

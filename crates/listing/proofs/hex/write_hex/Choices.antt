@@ -1,7 +1,7 @@
 use Prim.Native.Nat.{ℕ, _*_, _-_, _<_}
 use mathlib.Core.Path.{_≡_}
 use lib.ListN.{getD, length}
-use Rattle.bundle.specs.Fields.{field}
+use Rattle.integer.specs.Words.{field}
 use Rattle.listing.specs.Text.{hexDigit}
 use Rattle.listing.proofs.hex.write_hex.Given as given
 
