@@ -1,0 +1,4 @@
+pub mod Fill
+pub mod Distinct
+pub mod PredicateWords
+pub mod Rings

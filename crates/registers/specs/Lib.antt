@@ -1,0 +1,10 @@
+pub mod Banks
+pub mod Examples
+pub mod Frames
+pub mod Layout
+pub mod Markers
+pub mod Moves
+pub mod Names
+pub mod Pfs
+pub mod Predicates
+pub mod Rule
