@@ -4,7 +4,7 @@ use memory::Size;
 use std::error::AnyError;
 
 #[derive(Clone, Copy)]
-pub enum Request {
+pub(crate) enum Request {
     Enter(Entry),
     Store(u64, Size),
     Remove(u16),
@@ -23,7 +23,7 @@ fn size(bytes: &str) -> Result<Size, AnyError> {
     }
 }
 
-pub fn parse(line: &str) -> Result<Request, AnyError> {
+pub(crate) fn parse(line: &str) -> Result<Request, AnyError> {
     let mut words = line.split(' ');
     let name = words.next().unwrap_or("");
     let first = words.next().unwrap_or("");

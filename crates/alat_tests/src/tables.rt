@@ -14,7 +14,7 @@ use std::io;
 const CELLS: u16 = 4128;
 
 #[derive(Drop)]
-pub struct Tables {
+pub(crate) struct Tables {
     none: NoEntries,
     direct: DirectMapped,
     associative: FullyAssociative,
@@ -54,7 +54,7 @@ fn list<T: Alat>(rt: &LibcRuntime, table: &T) -> io::Result<()> {
 }
 
 impl Tables {
-    pub fn new() -> Tables {
+    pub(crate) fn new() -> Tables {
         Tables {
             none: NoEntries::new(),
             direct: DirectMapped::new(),
@@ -63,14 +63,14 @@ impl Tables {
     }
 
     // Tells each table.
-    pub fn tell(&mut self, request: Request) {
+    pub(crate) fn tell(&mut self, request: Request) {
         tell(&mut self.none, request);
         tell(&mut self.direct, request);
         tell(&mut self.associative, request);
     }
 
     // Prints what each table holds for the cell.
-    pub fn show(&self, rt: &LibcRuntime, cell: u16) -> io::Result<()> {
+    pub(crate) fn show(&self, rt: &LibcRuntime, cell: u16) -> io::Result<()> {
         print!(rt, "find")?;
         show(rt, &self.none, cell)?;
         show(rt, &self.direct, cell)?;
@@ -79,7 +79,7 @@ impl Tables {
     }
 
     // Prints all that each table holds, by cell.
-    pub fn list(&self, rt: &LibcRuntime) -> io::Result<()> {
+    pub(crate) fn list(&self, rt: &LibcRuntime) -> io::Result<()> {
         print!(rt, "none")?;
         list(rt, &self.none)?;
         print!(rt, "direct")?;
