@@ -1,4 +1,6 @@
 // Tables of advanced loads (ALATs): what one means, the interface of every kind, and the kinds of it.
+#![tactic(auto)]
+
 mod associative;
 mod direct;
 mod entry;

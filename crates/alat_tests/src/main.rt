@@ -1,4 +1,6 @@
 // Drives the three kinds of ALAT through their interface alone, by the requests of standard input, and prints what they answer.
+#![tactic(auto)]
+
 #[cfg(test)]
 mod corners;
 mod requests;

@@ -1,4 +1,6 @@
 // Instructions as text, in the syntax of the GNU assembler and as its disassembler writes them.
+#![tactic(auto)]
+
 mod alu;
 mod branch_unit;
 mod compare;

@@ -1,4 +1,6 @@
 // Bundles: 128 bits that hold a template and three instruction slots.
+#![tactic(auto)]
+
 mod split;
 mod template;
 

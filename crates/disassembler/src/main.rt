@@ -1,4 +1,6 @@
 // Writes the slots of the image on standard input as assembler text: the first 65,536 bytes of it, at address 0.
+#![tactic(auto)]
+
 use disassembly::Disassembly;
 use std::fmt::Write as FormatWrite;
 use std::io::{Read, Write};

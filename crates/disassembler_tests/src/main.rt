@@ -1,4 +1,6 @@
 // Writes a second image as assembler text: the sample program, and slots that hold no carried instruction.
+#![tactic(auto)]
+
 use disassembly::Disassembly;
 use std::io;
 use std::io::{Read, Write};

@@ -1,4 +1,6 @@
 // Images as assembler text.
+#![tactic(auto)]
+
 mod image;
 mod slot;
 

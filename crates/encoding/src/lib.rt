@@ -1,4 +1,6 @@
 // Bit fields of an instruction slot, and the immediates that they make up.
+#![tactic(auto)]
+
 mod fields;
 mod immediate;
 mod place;

@@ -1,4 +1,6 @@
 // Instructions: their records, and decoding.
+#![tactic(auto)]
+
 mod decoding;
 mod record;
 

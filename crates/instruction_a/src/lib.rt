@@ -1,4 +1,6 @@
 // The A-type instructions: their records and formats.
+#![tactic(auto)]
+
 mod decoding;
 mod record;
 

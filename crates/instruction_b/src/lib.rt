@@ -1,4 +1,6 @@
 // The B unit's instructions: their records and formats.
+#![tactic(auto)]
+
 mod decoding;
 mod predicate;
 mod record;

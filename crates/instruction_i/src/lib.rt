@@ -1,4 +1,6 @@
 // The I unit's own instructions: their records and formats.
+#![tactic(auto)]
+
 mod decoding;
 mod record;
 

@@ -1,4 +1,6 @@
 // The M unit's own instructions: their records and formats.
+#![tactic(auto)]
+
 mod decoding;
 mod record;
 

@@ -1,4 +1,6 @@
 // Integer operations on 64-bit words, by the names of the instructions that use them.
+#![tactic(auto)]
+
 mod bits;
 mod compare;
 mod extend;

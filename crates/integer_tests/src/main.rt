@@ -1,4 +1,6 @@
 // The operations on words side by side with Python's integers: the result of each case of the input is printed on a line.
+#![tactic(auto)]
+
 use anyhow::anyhow;
 use integer::{Length, Part, Position, Relation, Scale};
 use memory::{Image, Readable, Size};

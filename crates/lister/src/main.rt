@@ -1,4 +1,6 @@
 // Lists the bundles of the image on standard input: the first 65,536 bytes of it, at address 0.
+#![tactic(auto)]
+
 use listing::list_image;
 use std::io;
 use std::io::{Read, Write};

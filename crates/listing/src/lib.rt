@@ -1,4 +1,6 @@
 // Listings: the slots of bundles as lines of text.
+#![tactic(auto)]
+
 mod hex;
 mod lines;
 mod refusal;

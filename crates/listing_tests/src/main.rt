@@ -1,4 +1,6 @@
 // Lists an image with reserved templates and an MLX bundle; and tests at the corners of bundles, images and listings.
+#![tactic(auto)]
+
 use listing::list_image;
 use std::io::Write;
 use std::{fs, io};

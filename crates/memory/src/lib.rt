@@ -1,4 +1,6 @@
 // Memories: what one means, the interfaces through which it is read and written, and the kinds of it.
+#![tactic(auto)]
+
 mod access;
 mod bytes;
 mod flat;

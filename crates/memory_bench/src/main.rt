@@ -1,5 +1,7 @@
 // Loads or stores at places all over 256 KiB of a memory, for bench/memory to time: memory_bench KIND ACTION ROUNDS, where KIND is
 // flat, paged or protected and ACTION is load or store. It prints a sum of the words that were loaded or stored.
+#![tactic(auto)]
+
 use anyhow::anyhow;
 use memory::{Flat, Readable, Refusal, Rights, Size, Writable};
 use paged::{PageMap, PageTable, Paged};

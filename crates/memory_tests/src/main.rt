@@ -1,5 +1,7 @@
 // Memories of every kind side by side: each access of the input is tried on all of them, through the interfaces alone, and the
 // answers are printed on one line.
+#![tactic(auto)]
+
 use memory::{Flat, Image, Readable, Refusal, Right, Rights, Size, Writable};
 use paged::{PageMap, PageTable, Paged};
 use protection::{Protection, Range, Ranges};

@@ -1,4 +1,6 @@
 // Paged memory: pages of 4,096 bytes, each with rights of its own, over the caller's bytes.
+#![tactic(auto)]
+
 mod kind;
 mod map;
 mod page;

@@ -1,4 +1,6 @@
 // Protection: a memory with rights taken away in ranges of addresses.
+#![tactic(auto)]
+
 mod protecting;
 mod range;
 mod ranges;

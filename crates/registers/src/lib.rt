@@ -1,4 +1,6 @@
 // Register frames and banks: markers, naming, and the cells of a bank.
+#![tactic(auto)]
+
 mod bank;
 mod examples;
 mod frame;

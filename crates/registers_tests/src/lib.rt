@@ -1,4 +1,6 @@
 // Tests at the corners of banks, markers and frames.
+#![tactic(auto)]
+
 #[cfg(test)]
 mod tests {
     use registers::{
