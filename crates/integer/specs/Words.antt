@@ -1,5 +1,5 @@
 -- Words as numbers below 2 ^ 64, and what the integer instructions make of them.
-use Rattle.std.specs.Prelude.{ℕ, zero, suc, ◌+◌, ◌-◌, ◌*◌, ◌/◌, ◌%◌, ◌^◌, min, Bool, true, false, cond, ℤ, pos, negsuc, nat_lt}
+use Rattle.std.specs.Prelude.{ℕ, zero, suc, ◌+◌, ◌-◌, ◌*◌, ◌/◌, ◌%◌, ◌^◌, min, cond, ℤ, pos, negsuc, nat_lt}
 use Rattle.std.specs.Int.Signed.{shr_z}
 
 -- the field of `width` bits of the number n whose lowest bit is bit `first`

@@ -1,7 +1,6 @@
 -- Bytes that lie from a base up.
-use Rattle.std.proofs.Common.{◌≡◌, ℕ, ◌+◌, ◌-◌, ◌^◌, ◌<◌, ◌≤◌, min, Bool, true, false, cond, ◌&&◌, ltb, leb, List, length, get_or, take, Ok, Err, sym, refl, ap, ◌∙◌, ⊎_elim, arith}
+use Rattle.std.proofs.Common.{◌≡◌, ℕ, ◌+◌, ◌-◌, ◌^◌, ◌<◌, ◌≤◌, Bool, true, false, ◌&&◌, List, length, get_or, Ok, Err, sym, refl, ap, ◌∙◌, ⊎_elim, arith}
 use mathlib.Core.Path.{fun_ext}
-use Rattle.std.proofs.lemmas.List.{length-take, get_or-take}
 use Rattle.std.proofs.lemmas.Bool.{cases_Bool, cond-true, cond-false, and_right}
 use Rattle.std.proofs.lemmas.Bool.Decides.{nat_tests}
 use Rattle.memory.specs.declared.access.Right.{Right}
@@ -9,7 +8,7 @@ use Rattle.memory.specs.declared.access.Right.TheVariants.{Read, Write, Speculat
 use Rattle.memory.specs.declared.access.Rights.{Rights}
 use Rattle.memory.specs.declared.access.Size.{Size}
 use Rattle.memory.specs.Access.{has, bytes_of}
-use Rattle.memory.specs.Meaning.{Location, Meaning, nowhere, each, word, granted, word_at, loaded}
+use Rattle.memory.specs.Meaning.{nowhere, each, word, granted, word_at, loaded}
 use Rattle.memory.specs.Kinds.{inside, laid, all_rights}
 use Rattle.memory.proofs.Top.{has-nowhere}
 use Rattle.memory.proofs.Ranges.{some_bytes, each_and, word_same}

@@ -1,5 +1,5 @@
 -- What a store answers and leaves, for any memory and for bytes that lie from a base up.
-use Rattle.std.proofs.Common.{◌≡◌, ℕ, ◌+◌, ◌-◌, ◌/◌, ◌%◌, ◌^◌, ◌<◌, ◌≤◌, Bool, true, false, cond, ◌&&◌, ◌⊎◌, List, length, get_or, Ok, Err, Result, sym, refl, ap, ◌∙◌, inl, inr, ⊎_elim, div-one, arith}
+use Rattle.std.proofs.Common.{◌≡◌, ℕ, ◌+◌, ◌-◌, ◌/◌, ◌%◌, ◌^◌, ◌<◌, ◌≤◌, Bool, true, false, cond, ◌⊎◌, List, length, get_or, Ok, Err, Result, sym, refl, ap, ◌∙◌, inl, inr, ⊎_elim, div-one, arith}
 use mathlib.Core.Path.{fun_ext}
 use Rattle.std.proofs.lemmas.Bool.{cases_Bool, cases_eq, cases_lt, cond-true, cond-false}
 use Rattle.std.proofs.lemmas.Bool.Decides.{nat_tests}
@@ -8,7 +8,7 @@ use Rattle.memory.specs.declared.access.Right.TheVariants.{Write}
 use Rattle.memory.specs.declared.access.Rights.{Rights}
 use Rattle.memory.specs.declared.access.Size.{Size}
 use Rattle.memory.specs.Access.{bytes_of, has}
-use Rattle.memory.specs.Meaning.{Meaning, Location, nowhere, each, granted, put, replaced, store_answer, stored}
+use Rattle.memory.specs.Meaning.{Meaning, each, granted, put, replaced, store_answer, stored}
 use Rattle.memory.specs.Kinds.{inside, laid}
 use Rattle.memory.proofs.Laid.{laid_in, laid_out, granted-covered}
 use Rattle.memory.proofs.Ranges.{some_bytes}

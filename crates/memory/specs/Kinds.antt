@@ -3,7 +3,7 @@ use Rattle.std.specs.Prelude.{◌≡◌, ℕ, ◌+◌, ◌-◌, ◌^◌, ◌≤�
 use Rattle.std.proofs.Common.{arith}
 use Rattle.std.proofs.lemmas.Bool.{cond-false, and_right, le-ltb}
 use Rattle.memory.specs.declared.access.Rights.{Rights}
-use Rattle.memory.specs.Meaning.{Meaning, Location, nowhere}
+use Rattle.memory.specs.Meaning.{Meaning, nowhere}
 
 -- the address a is one of the n from base up, and not past the top address
 abbrev pub inside : ℕ → ℕ → ℕ → Bool

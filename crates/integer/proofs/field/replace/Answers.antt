@@ -2,14 +2,14 @@ use Rattle.std.proofs.Common.{◌*◌, ◌^◌, ap, arith}
 use Rattle.integer.proofs.Laws.{field_below, deposit-below, parts}
 use Rattle.integer.proofs.field.replace.Goals as goal
 
-pub overflow-sub-result : goal.overflow-sub-result
-overflow-sub-result c =
+pub overflow_sub-result : goal.overflow_sub-result
+overflow_sub-result c =
     let p = parts c.args.y c.args.at c.args.bits in
     let e = ap (λ v. v * 2 ^ c.args.at) c.low.ensures in
     omega arith
 
-pub overflow-add-result : goal.overflow-add-result
-overflow-add-result c =
+pub overflow_add-result : goal.overflow_add-result
+overflow_add-result c =
     let p = parts c.args.y c.args.at c.args.bits in
     let e = ap (λ v. v * 2 ^ c.args.at) c.low.ensures in
     let b = field_below c.args.x c.args.at c.args.bits 64 c.requires.within in

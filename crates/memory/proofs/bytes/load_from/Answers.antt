@@ -11,4 +11,4 @@ pub returns : goal.returns
 returns c rights h =
     let i = c.covers.ensures.ends c.if-not-covers.false in
     let w = laid_word rights c.args.base c.args.bytes.now c.args.address (bytes_of c.args.size) i.0 i.1 i.2 in
-    loaded-covered rights c.args.base c.args.bytes.now c.args.address c.args.size _ h (sym c.if-not-covers.false ∙ c.covers.ensures.value) (c.word-at.ensures ∙ sym w)
+    loaded-covered rights c.args.base c.args.bytes.now c.args.address c.args.size _ h (sym c.if-not-covers.false ∙ c.covers.ensures.value) (c.word_at.ensures ∙ sym w)

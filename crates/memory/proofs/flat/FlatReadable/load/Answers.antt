@@ -2,4 +2,4 @@ use Rattle.std.proofs.Common.{refl}
 use Rattle.memory.proofs.flat.FlatReadable.load.Goals as goal
 
 pub returns : goal.returns
-returns c = c.load-from.ensures _ refl
+returns c = c.load_from.ensures _ refl
