@@ -4,30 +4,30 @@ use Rattle.alat.specs.Table.{others}
 use Rattle.alat.proofs.Ageing.{inserted-found, inserted-full, inserted-more, from_start, room}
 use Rattle.alat.proofs.associative.insert.Goals as goal
 
-pub returns-in-default : goal.returns-in-default
-returns-in-default c =
+pub returns-in_default : goal.returns-in_default
+returns-in_default c =
     let e = c.args.load in
     let n = c.args.count in
     let ps = c.args.places.now in
-    let len : length c.push-front.new.entries ≡ n = omega (arith, length-take n ps) in
-    let all = c.in-default.ensures ∙ from_start (λ es. e ∷ others e.cell es) n ps in
-    record { after = inserted-found n c.push-front.new.entries _ _ len c.requires.within all; bound = c.requires.within }
+    let len : length c.push_front.new.entries ≡ n = omega (arith, length-take n ps) in
+    let all = c.in_default.ensures ∙ from_start (λ es. e ∷ others e.cell es) n ps in
+    record { after = inserted-found n c.push_front.new.entries _ _ len c.requires.within all; bound = c.requires.within }
 
 pub returns-then-count-eq-CAPACITY : goal.returns-then-count-eq-CAPACITY
 returns-then-count-eq-CAPACITY c =
     let e = c.args.load in
     let n = c.args.count in
     let ps = c.args.places.now in
-    let len : length c.push-front.new.entries ≡ n = omega (arith, length-take n ps) in
+    let len : length c.push_front.new.entries ≡ n = omega (arith, length-take n ps) in
     let all = c.in-Some.ensures ∙ from_start (λ es. e ∷ others e.cell es) n ps in
-    record { after = inserted-full n c.push-front.new.entries _ c.in-Some.last _ len c.if-count-eq-CAPACITY.true all; bound = c.requires.within }
+    record { after = inserted-full n c.push_front.new.entries _ c.in-Some.last _ len c.if-count-eq-CAPACITY.true all; bound = c.requires.within }
 
 pub returns : goal.returns
 returns c =
     let e = c.args.load in
     let n = c.args.count in
     let ps = c.args.places.now in
-    let ys = c.push-front.new.entries in
+    let ys = c.push_front.new.entries in
     let len : length ys ≡ n = omega (arith, length-take n ps) in
     let within : n < 16 = omega arith in
     let all = c.in-Some.ensures ∙ from_start (λ es. e ∷ others e.cell es) n ps in

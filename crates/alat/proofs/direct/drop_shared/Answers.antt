@@ -10,7 +10,7 @@ loop-place-preserved c =
     let ys = c.loop-place.places in
     let i = c.loop-place.place-index in
     let f = without_shared_byte c.args.address c.args.size in
-    ap (λ p. set ys i p) c.without-shared.ensures
+    ap (λ p. set ys i p) c.without_shared.ensures
     ∙ map_over_more f ps ys i (get_or ys i None) (omega arith) c.loop-place.invariant (get_or_default ys i None (get_or ys i None) (omega arith))
 
 pub returns : goal.returns

@@ -9,7 +9,7 @@ loop-i-init g c = filled_none c.args.from g.K.BlankKind.blank c.args.cells.now
 pub loop-i-preserved : goal.loop-i-preserved
 loop-i-preserved g c =
     filled_more c.args.from g.K.BlankKind.blank c.args.cells.now c.loop-i.i c.loop-i.cells _ c.loop-i.invariant
-    (c.put.ensures ∙ ap (set c.loop-i.cells (c.args.from + c.loop-i.i)) c.blank-cell.ensures)
+    (c.put.ensures ∙ ap (set c.loop-i.cells (c.args.from + c.loop-i.i)) c.blank_cell.ensures)
 
 pub returns : goal.returns
 returns g c =

@@ -5,4 +5,4 @@ use Rattle.registers.proofs.bank.cell.Goals as goal
 
 pub returns-then-i-cells : goal.returns-then-i-cells
 returns-then-i-cells g c =
-    c.blank-cell-then-i-cells.ensures ∙ sym (ap (cell_at g.K.BlankKind.blank c.args.cells.now) c.in-Some.is ∙ get_or_past c.args.cells.now c.in-Some.i g.K.BlankKind.blank c.if-i-cells.true)
+    c.blank_cell-then-i-cells.ensures ∙ sym (ap (cell_at g.K.BlankKind.blank c.args.cells.now) c.in-Some.is ∙ get_or_past c.args.cells.now c.in-Some.i g.K.BlankKind.blank c.if-i-cells.true)

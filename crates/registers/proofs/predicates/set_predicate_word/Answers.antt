@@ -8,7 +8,7 @@ loop-i-init c = masked-none c.args.word c.args.mask c.args.cells.now
 
 pub loop-i-preserved : goal.loop-i-preserved
 loop-i-preserved c =
-    masked-more c.args.word c.args.mask c.loop-i.i c.args.cells.now c.loop-i.cells _ (omega arith) c.loop-i.invariant c.set-masked.ensures
+    masked-more c.args.word c.args.mask c.loop-i.i c.args.cells.now c.loop-i.cells _ (omega arith) c.loop-i.invariant c.set_masked.ensures
 
 pub returns : goal.returns
 returns c =

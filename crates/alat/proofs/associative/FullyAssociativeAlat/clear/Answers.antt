@@ -2,5 +2,5 @@ use Rattle.std.proofs.Common.{arith}
 use Rattle.alat.specs.Bounds.{not-repeated}
 use Rattle.alat.proofs.associative.FullyAssociativeAlat.clear.Goals as goal
 
-pub invariant-of-self : goal.invariant-of-self
-invariant-of-self c = (omega arith, (not-repeated _ tt, tt))
+pub invariant_of-self : goal.invariant_of-self
+invariant_of-self c = (omega arith, (not-repeated _ tt, tt))

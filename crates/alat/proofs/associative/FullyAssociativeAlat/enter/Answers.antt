@@ -11,8 +11,8 @@ use Rattle.alat.proofs.associative.FullyAssociativeAlat.enter.Goals as goal
 pub insert-self-requires : goal.insert-self-requires
 insert-self-requires c = record { within = c.args.self.now.within; unique = unique_since _ c.args.self.now.one_each }
 
-pub invariant-of-self : goal.invariant-of-self
-invariant-of-self c =
+pub invariant_of-self : goal.invariant_of-self
+invariant_of-self c =
     let u = unique_since _ c.args.self.now.one_each in
     (c.insert-self.ensures.bound, (not-repeated _ (subst OneEach (sym c.insert-self.ensures.after) (fully_associative_lawful.unique _ (Enter c.args.load) u)), tt))
 

@@ -2,5 +2,5 @@ use Rattle.std.proofs.Common.{arith}
 use Rattle.alat.specs.Bounds.{not-repeated}
 use Rattle.alat.proofs.associative.FullyAssociativeAlat.new.Goals as goal
 
-pub invariant-of-result : goal.invariant-of-result
-invariant-of-result c = (omega arith, (not-repeated _ tt, tt))
+pub invariant_of-result : goal.invariant_of-result
+invariant_of-result c = (omega arith, (not-repeated _ tt, tt))

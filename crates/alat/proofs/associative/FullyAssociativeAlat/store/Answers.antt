@@ -7,8 +7,8 @@ use Rattle.alat.proofs.Ageing.{retained, from_start}
 use Rattle.alat.proofs.Placing.{keeps-apart}
 use Rattle.alat.proofs.associative.FullyAssociativeAlat.store.Goals as goal
 
-pub invariant-of-self : goal.invariant-of-self
-invariant-of-self c =
+pub invariant_of-self : goal.invariant_of-self
+invariant_of-self c =
     let s = c.args.self.now in
     let len : length c.retain-self.new.entries ≡ s.count = omega (arith, length-take s.count s.places, s.within) in
     let few : c.retain-self.result ≤ s.count = omega (arith, length-take s.count s.places, c.retain-self.ensures.bound) in

@@ -6,10 +6,10 @@ use Rattle.alat.specs.Rule.{Enter}
 use Rattle.alat.proofs.Placing.{in-place-set, enter-listed, direct-entered, direct-keeps}
 use Rattle.alat.proofs.direct.DirectMappedAlat.enter.Goals as goal
 
-pub invariant-of-self : goal.invariant-of-self
-invariant-of-self c = (
-  in-place-set c.args.self.now.places c.place-of.result (Some c.args.load) c.args.self.now.in_place
-      (λ e q. let s : c.args.load ≡ e = cc in ap (λ x. place_for x.cell) (sym s) ∙ sym c.place-of.ensures.value),
+pub invariant_of-self : goal.invariant_of-self
+invariant_of-self c = (
+  in-place-set c.args.self.now.places c.place_of.result (Some c.args.load) c.args.self.now.in_place
+      (λ e q. let s : c.args.load ≡ e = cc in ap (λ x. place_for x.cell) (sym s) ∙ sym c.place_of.ensures.value),
   tt,
 )
 
@@ -18,8 +18,8 @@ returns c =
     let ps = c.args.self.now.places in
     let e = c.args.load in
     let es = listed ps in
-    let after : listed (set ps c.place-of.result (Some e)) ≡ direct_mapped es (Enter e) =
-    ap (λ n. listed (set ps n (Some e))) c.place-of.ensures.value ∙ enter-listed ps e c.args.self.now.in_place (omega arith) in
+    let after : listed (set ps c.place_of.result (Some e)) ≡ direct_mapped es (Enter e) =
+    ap (λ n. listed (set ps n (Some e))) c.place_of.ensures.value ∙ enter-listed ps e c.args.self.now.in_place (omega arith) in
     record {
       after = after;
       held = subst (λ l. Entered e l) (sym after) (direct-entered es e);

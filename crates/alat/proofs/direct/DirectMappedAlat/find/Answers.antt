@@ -6,4 +6,4 @@ use Rattle.alat.proofs.direct.DirectMappedAlat.find.Goals as goal
 pub returns : goal.returns
 returns c =
     let s = c.args.self.now in
-    c.of-cell.ensures ∙ ap (λ n. if_of_cell c.args.cell (get_or s.places n None)) c.place-of.ensures.value ∙ find-listed s.places c.args.cell s.in_place
+    c.of_cell.ensures ∙ ap (λ n. if_of_cell c.args.cell (get_or s.places n None)) c.place_of.ensures.value ∙ find-listed s.places c.args.cell s.in_place

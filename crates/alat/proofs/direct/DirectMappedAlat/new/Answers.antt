@@ -1,5 +1,5 @@
 use Rattle.alat.proofs.Placing.{in-place-none}
 use Rattle.alat.proofs.direct.DirectMappedAlat.new.Goals as goal
 
-pub invariant-of-result : goal.invariant-of-result
-invariant-of-result c = (in-place-none 32, tt)
+pub invariant_of-result : goal.invariant_of-result
+invariant_of-result c = (in-place-none 32, tt)

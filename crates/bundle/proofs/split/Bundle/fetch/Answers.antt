@@ -5,14 +5,14 @@ use Rattle.memory.proofs.Top.{granted-past}
 use Rattle.bundle.proofs.Fetches.{granted-both}
 use Rattle.bundle.proofs.split.Bundle.fetch.Goals as goal
 
-pub returns-in-default : goal.returns-in-default
-returns-in-default g c =
-    let past : 2 ^ 64 ≤ c.args.address + 8 = omega (arith, c.in-default.ensures) in
+pub returns-in_default : goal.returns-in_default
+returns-in_default g c =
+    let past : 2 ^ 64 ≤ c.args.address + 8 = omega (arith, c.in_default.ensures) in
     let m = g.M.Readable.meaning c.args.memory.now in
     sym (cond-false _ _ _ (granted-past m (g.M.Readable.bounded c.args.memory.now) Read c.args.address 16 (omega arith) (omega arith)))
 
-pub returns-in-err-low : goal.returns-in-err-low
-returns-in-err-low g c = let e = granted-both (g.M.Readable.meaning c.args.memory.now) c.args.address in search rules
+pub returns-in_err-low : goal.returns-in_err-low
+returns-in_err-low g c = let e = granted-both (g.M.Readable.meaning c.args.memory.now) c.args.address in search rules
 
 pub returns-in-Ok : goal.returns-in-Ok
 returns-in-Ok g c = let e = granted-both (g.M.Readable.meaning c.args.memory.now) c.args.address in search rules

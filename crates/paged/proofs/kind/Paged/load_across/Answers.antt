@@ -10,16 +10,16 @@ use Rattle.paged.specs.Pages.{paged, paged-bounded}
 use Rattle.paged.specs.Tables.{pages_of}
 use Rattle.paged.proofs.kind.Paged.load_across.Goals as goal
 
-pub returns-then-not-grants-across : goal.returns-then-not-grants-across
-returns-then-not-grants-across c =
+pub returns-then-not-grants_across : goal.returns-then-not-grants_across
+returns-then-not-grants_across c =
     let s = c.args.self.now in
-    load-refused (paged (pages_of s.table.now) s.bytes.now) c.args.address c.args.size (sym c.if-not-grants-across.true ∙ c.grants-across.ensures)
+    load-refused (paged (pages_of s.table.now) s.bytes.now) c.args.address c.args.size (sym c.if-not-grants_across.true ∙ c.grants_across.ensures)
 
-pub overflow-add-address : goal.overflow-add-address
-overflow-add-address c =
+pub overflow_add-address : goal.overflow_add-address
+overflow_add-address c =
     let s = c.args.self.now in
     let m = paged (pages_of s.table.now) s.bytes.now in
-    let fits = granted-fits m (paged-bounded (pages_of s.table.now) s.bytes.now) Read c.args.address (bytes_of c.args.size) (some_bytes c.args.size) (sym c.grants-across.ensures ∙ c.if-not-grants-across.false) in
+    let fits = granted-fits m (paged_bounded (pages_of s.table.now) s.bytes.now) Read c.args.address (bytes_of c.args.size) (some_bytes c.args.size) (sym c.grants_across.ensures ∙ c.if-not-grants_across.false) in
     omega arith
 
 pub loop-i-preserved : goal.loop-i-preserved
@@ -34,4 +34,4 @@ pub returns : goal.returns
 returns c =
     let s = c.args.self.now in
     let m = paged (pages_of s.table.now) s.bytes.now in
-    c.load-from.ensures all_rights refl ∙ load-gathered m c.args.address c.args.size c.loop-i.word c.loop-i.invariant.0 (λ k h. c.loop-i.invariant.1 k (omega arith)) (sym c.if-not-grants-across.false ∙ c.grants-across.ensures)
+    c.load_from.ensures all_rights refl ∙ load-gathered m c.args.address c.args.size c.loop-i.word c.loop-i.invariant.0 (λ k h. c.loop-i.invariant.1 k (omega arith)) (sym c.if-not-grants_across.false ∙ c.grants_across.ensures)

@@ -13,6 +13,6 @@ returns c =
     record {
       table = refl;
       after = λ can.
-          page-stores s.table.now s.bytes.now c.args.address (omega arith) One c.in-Some.place e stays _ c.args.byte c.store-into.ensures.after
+          page-stores s.table.now s.bytes.now c.args.address (omega arith) One c.in-Some.place e stays _ c.args.byte c.store_into.ensures.after
           (byte-covered (pages_of s.table.now) s.bytes.now c.args.address c.in-Some.place e (omega arith) can);
     }

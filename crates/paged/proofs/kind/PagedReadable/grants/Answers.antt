@@ -2,10 +2,10 @@ use Rattle.std.proofs.Common.{◌≡◌, sym, ◌∙◌, arith}
 use Rattle.paged.proofs.Accesses.{granted-none, page-denies, page-grants}
 use Rattle.paged.proofs.kind.PagedReadable.grants.Goals as goal
 
-pub returns-in-default : goal.returns-in-default
-returns-in-default c =
+pub returns-in_default : goal.returns-in_default
+returns-in_default c =
     let s = c.args.self.now in
-    granted-none s.table.now s.bytes.now c.args.address (omega arith) c.args.size (sym c.locate.ensures ∙ c.in-default.is) c.args.right
+    granted-none s.table.now s.bytes.now c.args.address (omega arith) c.args.size (sym c.locate.ensures ∙ c.in_default.is) c.args.right
 
 pub returns-then-not-has : goal.returns-then-not-has
 returns-then-not-has c =

@@ -7,11 +7,11 @@ use Rattle.paged.specs.Tables.{pages_of}
 use Rattle.paged.proofs.Accesses.{granted-none, page-denies, page-loads, page-loads-not}
 use Rattle.paged.proofs.kind.PagedReadable.load.Goals as goal
 
-pub returns-in-default : goal.returns-in-default
-returns-in-default c =
+pub returns-in_default : goal.returns-in_default
+returns-in_default c =
     let s = c.args.self.now in
     load-refused (paged (pages_of s.table.now) s.bytes.now) c.args.address c.args.size
-    (granted-none s.table.now s.bytes.now c.args.address (omega arith) c.args.size (sym c.locate.ensures ∙ c.in-default.is) Read)
+    (granted-none s.table.now s.bytes.now c.args.address (omega arith) c.args.size (sym c.locate.ensures ∙ c.in_default.is) Read)
 
 pub returns-then-not-place : goal.returns-then-not-place
 returns-then-not-place c =

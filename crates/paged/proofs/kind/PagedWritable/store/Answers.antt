@@ -7,10 +7,10 @@ use Rattle.paged.specs.Tables.{pages_of}
 use Rattle.paged.proofs.Accesses.{granted-none, page-denies, page-store-done, page-store-refused}
 use Rattle.paged.proofs.kind.PagedWritable.store.Goals as goal
 
-pub returns-in-default : goal.returns-in-default
-returns-in-default c =
+pub returns-in_default : goal.returns-in_default
+returns-in_default c =
     let s = c.args.self.now in
-    let g = granted-none s.table.now s.bytes.now c.args.address (omega arith) c.args.size (sym c.locate.ensures ∙ c.in-default.is) Write in
+    let g = granted-none s.table.now s.bytes.now c.args.address (omega arith) c.args.size (sym c.locate.ensures ∙ c.in_default.is) Write in
     let p = store-refused (paged (pages_of s.table.now) s.bytes.now) c.args.address c.args.size c.args.value g in
     record { answer = p.0; after = p.1 }
 
@@ -26,12 +26,12 @@ pub returns-in-Ok : goal.returns-in-Ok
 returns-in-Ok c =
     let s = c.args.self.now in
     let p =
-    page-store-done s.table.now s.bytes.now c.args.address (omega arith) c.args.size c.in-Some.place (sym c.locate.ensures ∙ c.in-Some.is) (sym c.crosses.ensures ∙ c.if-crosses.false) _ c.args.value c.store-into.ensures.after (not-false _ c.if-not-place.false) _ c.in-Ok.ensures.answer in
+    page-store-done s.table.now s.bytes.now c.args.address (omega arith) c.args.size c.in-Some.place (sym c.locate.ensures ∙ c.in-Some.is) (sym c.crosses.ensures ∙ c.if-crosses.false) _ c.args.value c.store_into.ensures.after (not-false _ c.if-not-place.false) _ c.in-Ok.ensures.answer in
     record { answer = p.0; after = p.1 }
 
 pub returns-in-Err : goal.returns-in-Err
 returns-in-Err c =
     let s = c.args.self.now in
     let p =
-    page-store-refused s.table.now s.bytes.now c.args.address (omega arith) c.args.size c.in-Some.place (sym c.locate.ensures ∙ c.in-Some.is) (sym c.crosses.ensures ∙ c.if-crosses.false) _ c.args.value c.store-into.ensures.after (not-false _ c.if-not-place.false) _ _ c.in-Err.ensures.answer in
+    page-store-refused s.table.now s.bytes.now c.args.address (omega arith) c.args.size c.in-Some.place (sym c.locate.ensures ∙ c.in-Some.is) (sym c.crosses.ensures ∙ c.if-crosses.false) _ c.args.value c.store_into.ensures.after (not-false _ c.if-not-place.false) _ _ c.in-Err.ensures.answer in
     record { answer = p.0; after = p.1 }

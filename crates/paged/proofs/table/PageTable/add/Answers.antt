@@ -19,23 +19,23 @@ returns-then-page-ne0 c =
     let s = c.args.self.now in
     record { answer = map-bad s.pages s.count _ _ (omega arith) (omega arith) (omega arith) (base-odd _ _ c.if-page-ne0.true); pages = refl }
 
-pub returns-then-is-some : goal.returns-then-is-some
-returns-then-is-some c =
+pub returns-then-is_some : goal.returns-then-is_some
+returns-then-is_some c =
     let s = c.args.self.now in
-    let e = ap is_some (sym c.find.ensures.place) ∙ sym c.is-some.ensures ∙ c.if-is-some.true in
+    let e = ap is_some (sym c.find.ensures.place) ∙ sym c.is_some.ensures ∙ c.if-is_some.true in
     record { answer = map-bad s.pages s.count _ _ (omega arith) (omega arith) (omega arith) (base-taken _ _ e); pages = refl }
 
-pub invariant-of-self : goal.invariant-of-self
-invariant-of-self c =
+pub invariant_of-self : goal.invariant_of-self
+invariant_of-self c =
     let s = c.args.self.now in
-    let e = ap is_some (sym c.find.ensures.place) ∙ sym c.is-some.ensures ∙ c.if-is-some.false in
+    let e = ap is_some (sym c.find.ensures.place) ∙ sym c.is_some.ensures ∙ c.if-is_some.false in
     let new = unfound s.pages s.count (omega arith) s.aligned c.args.page.base (omega arith) e c.if-page-ne0.false in
     (omega arith, (length-set _ _ _ ∙ s.whole, (aligned-more s.pages s.count c.args.page s.whole (omega arith) s.aligned c.if-page-ne0.false, (apart_more s.pages s.count c.args.page s.whole (omega arith) s.apart new, tt))))
 
 pub returns : goal.returns
 returns c =
     let s = c.args.self.now in
-    let e = ap is_some (sym c.find.ensures.place) ∙ sym c.is-some.ensures ∙ c.if-is-some.false in
+    let e = ap is_some (sym c.find.ensures.place) ∙ sym c.is_some.ensures ∙ c.if-is_some.false in
     record {
       answer = map-new s.pages s.count _ _ (omega arith) (omega arith) (omega arith) (base-new _ _ c.if-page-ne0.false e);
       pages = take_more_set s.pages s.count c.args.page (omega arith);

@@ -9,8 +9,8 @@ returns-then-self c = let e = allowed-one c.args.self c.args.right c.args.addres
 pub returns-then-self-address : goal.returns-then-self-address
 returns-then-self-address c = let e = allowed-one c.args.self c.args.right c.args.address c.args.count in grind (arith, nat_tests)
 
-pub returns-then-count-saturating-sub : goal.returns-then-count-saturating-sub
-returns-then-count-saturating-sub c = let e = allowed-one c.args.self c.args.right c.args.address c.args.count in grind (arith, nat_tests)
+pub returns-then-count-saturating_sub : goal.returns-then-count-saturating_sub
+returns-then-count-saturating_sub c = let e = allowed-one c.args.self c.args.right c.args.address c.args.count in grind (arith, nat_tests)
 
 pub returns : goal.returns
 returns c = let e = allowed-one c.args.self c.args.right c.args.address c.args.count in grind (arith, nat_tests)
