@@ -16,7 +16,7 @@ pub struct Bundle {
 impl Bundle {
     // The 16 bytes at the address, if each of them may be read.
     pub fn fetch<M: Readable>(memory: &M, address: u64) -> Result<Bundle, MissingRight>
-        ensures { result ≡ fetched (meaning memory.now) address }
+        ensures { result ≡ fetched (M.meaning memory.now) address }
     {
         let Some(next) = address.checked_add(8) else {
             return Err(MissingRight { address });

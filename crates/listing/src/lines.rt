@@ -45,8 +45,8 @@ fn write_bundle(out: &mut [u8], address: u64, bundle: Bundle)
 
 // Writes the lines of the bundle at the address into the buffer, of which they take the first 99 bytes.
 pub fn list_bundle<M: Readable>(memory: &M, address: u64, buffer: &mut [u8]) -> Result<(), Refusal>
-    ensures answer { result ≡ answered (meaning memory.now) address (length buffer.old) }
-    ensures buffer { buffer.new ≡ after (meaning memory.now) address buffer.old }
+    ensures answer { result ≡ answered (M.meaning memory.now) address (length buffer.old) }
+    ensures buffer { buffer.new ≡ after (M.meaning memory.now) address buffer.old }
 {
     if buffer.len() < 99 {
         return Err(Refusal::ShortBuffer);

@@ -16,7 +16,7 @@ pub struct Protection<M> {
 impl<M: Readable> Protection<M> {
     // The memory under these ranges, which stay as they are.
     pub fn new(memory: M, ranges: Ranges) -> Protection<M>
-        ensures { protected (ranges_of result.ranges) (meaning result.memory) ≡ protected (ranges_of ranges) (meaning memory) }
+        ensures { protected (ranges_of result.ranges) (M.meaning result.memory) ≡ protected (ranges_of ranges) (M.meaning memory) }
     {
         Protection { memory, ranges }
     }

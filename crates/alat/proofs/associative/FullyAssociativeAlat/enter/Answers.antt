@@ -14,7 +14,10 @@ insert-self-requires c = record { within = c.args.self.now.within; unique = uniq
 pub invariant_of-self : goal.invariant_of-self
 invariant_of-self c =
     let u = unique_since _ c.args.self.now.one_each in
-    (c.insert-self.ensures.bound, (not-repeated _ (subst OneEach (sym c.insert-self.ensures.after) (fully_associative_lawful.unique _ (Enter c.args.load) u)), tt))
+    record {
+      within = c.insert-self.ensures.bound;
+      one_each = not-repeated _ (subst OneEach (sym c.insert-self.ensures.after) (fully_associative_lawful.unique _ (Enter c.args.load) u));
+    }
 
 pub returns : goal.returns
 returns c =

@@ -3,4 +3,4 @@ use Rattle.alat.specs.Bounds.{not-repeated}
 use Rattle.alat.proofs.associative.FullyAssociativeAlat.new.Goals as goal
 
 pub invariant_of-result : goal.invariant_of-result
-invariant_of-result c = (omega arith, (not-repeated _ tt, tt))
+invariant_of-result c = record { within = omega arith; one_each = not-repeated _ tt }

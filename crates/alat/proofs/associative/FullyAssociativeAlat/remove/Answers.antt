@@ -13,7 +13,10 @@ invariant_of-self c =
     let len : length c.retain-self.new.entries ≡ s.count = omega (arith, length-take s.count s.places, s.within) in
     let few : c.retain-self.result ≤ s.count = omega (arith, length-take s.count s.places, c.retain-self.ensures.bound) in
     let after = retained c.retain-self.result s.count c.retain-self.new.entries _ _ len few (c.retain-self.ensures.after ∙ from_start (others c.args.cell) s.count s.places) in
-    (omega (arith, few, s.within), (not-repeated _ (subst OneEach (sym after) (unique-kept _ _ (unique_since _ s.one_each))), tt))
+    record {
+      within = omega (arith, few, s.within);
+      one_each = not-repeated _ (subst OneEach (sym after) (unique-kept _ _ (unique_since _ s.one_each)));
+    }
 
 pub returns : goal.returns
 returns c =

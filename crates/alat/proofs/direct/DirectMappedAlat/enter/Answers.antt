@@ -7,11 +7,10 @@ use Rattle.alat.proofs.Placing.{in-place-set, enter-listed, direct-entered, dire
 use Rattle.alat.proofs.direct.DirectMappedAlat.enter.Goals as goal
 
 pub invariant_of-self : goal.invariant_of-self
-invariant_of-self c = (
-  in-place-set c.args.self.now.places c.place_of.result (Some c.args.load) c.args.self.now.in_place
-      (λ e q. let s : c.args.load ≡ e = cc in ap (λ x. place_for x.cell) (sym s) ∙ sym c.place_of.ensures.value),
-  tt,
-)
+invariant_of-self c = record {
+  in_place = in-place-set c.args.self.now.places c.place_of.result (Some c.args.load) c.args.self.now.in_place
+      (λ e q. let s : c.args.load ≡ e = cc in ap (λ x. place_for x.cell) (sym s) ∙ sym c.place_of.ensures.value);
+}
 
 pub returns : goal.returns
 returns c =

@@ -2,4 +2,4 @@ use Rattle.alat.proofs.Placing.{in-place-none}
 use Rattle.alat.proofs.direct.DirectMappedAlat.new.Goals as goal
 
 pub invariant_of-result : goal.invariant_of-result
-invariant_of-result c = (in-place-none 32, tt)
+invariant_of-result c = record { in_place = in-place-none 32 }

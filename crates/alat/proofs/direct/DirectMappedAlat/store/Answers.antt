@@ -9,11 +9,11 @@ use Rattle.alat.proofs.direct.DirectMappedAlat.store.Goals as goal
 pub invariant_of-self : goal.invariant_of-self
 invariant_of-self c =
     let address = c.args.address in
-    let size = c.args.size in (
-      subst InPlace (sym c.drop_shared.ensures)
-          (in-place-map (without_shared_byte address size) refl (without-shared-keeps address size) c.args.self.now.places c.args.self.now.in_place),
-      tt,
-    )
+    let size = c.args.size in
+    record {
+      in_place = subst InPlace (sym c.drop_shared.ensures)
+          (in-place-map (without_shared_byte address size) refl (without-shared-keeps address size) c.args.self.now.places c.args.self.now.in_place);
+    }
 
 pub returns : goal.returns
 returns c =

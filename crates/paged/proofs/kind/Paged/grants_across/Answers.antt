@@ -14,7 +14,7 @@ returns-in_default c =
     let s = c.args.self.now in
     let past : 2 ^ 64 ≤ c.args.address + c.loop-i.i = omega (arith, c.in_default.ensures) in
     let less : c.loop-i.i < bytes_of c.args.size = omega arith in
-    each-fail _ c.args.address _ c.loop-i.i less (ap (λ l. has l.rights c.args.right) (paged_bounded (pages_of s.table.now) s.bytes.now _ past) ∙ has-nowhere c.args.right)
+    each-fail _ c.args.address _ c.loop-i.i less (ap (λ l. has l.rights c.args.right) (paged-bounded (pages_of s.table.now) s.bytes.now _ past) ∙ has-nowhere c.args.right)
 
 pub returns-then-not-byte_grants : goal.returns-then-not-byte_grants
 returns-then-not-byte_grants c =

@@ -16,7 +16,7 @@ pub overflow_add-address : goal.overflow_add-address
 overflow_add-address c =
     let s = c.args.self.now in
     let m = paged (pages_of s.table.now) s.bytes.now in
-    let fits = granted-fits m (paged_bounded (pages_of s.table.now) s.bytes.now) Write c.args.address (bytes_of c.args.size) (some_bytes c.args.size) (sym c.grants_across.ensures ∙ c.if-not-grants_across.false) in
+    let fits = granted-fits m (paged-bounded (pages_of s.table.now) s.bytes.now) Write c.args.address (bytes_of c.args.size) (some_bytes c.args.size) (sym c.grants_across.ensures ∙ c.if-not-grants_across.false) in
     omega arith
 
 pub loop-i-preserved : goal.loop-i-preserved

@@ -30,7 +30,12 @@ invariant_of-self c =
     let s = c.args.self.now in
     let e = ap is_some (sym c.find.ensures.place) ∙ sym c.is_some.ensures ∙ c.if-is_some.false in
     let new = unfound s.pages s.count (omega arith) s.aligned c.args.page.base (omega arith) e c.if-page-ne0.false in
-    (omega arith, (length-set _ _ _ ∙ s.whole, (aligned-more s.pages s.count c.args.page s.whole (omega arith) s.aligned c.if-page-ne0.false, (apart_more s.pages s.count c.args.page s.whole (omega arith) s.apart new, tt))))
+    record {
+      few = omega arith;
+      whole = length-set _ _ _ ∙ s.whole;
+      aligned = aligned-more s.pages s.count c.args.page s.whole (omega arith) s.aligned c.if-page-ne0.false;
+      apart = apart_more s.pages s.count c.args.page s.whole (omega arith) s.apart new;
+    }
 
 pub returns : goal.returns
 returns c =
