@@ -1,8 +1,8 @@
 -- A bundle is fetched by two loads.
-use Rattle.std.proofs.Common.{◌≡◌, ℕ, ◌+◌, ◌-◌, ◌^◌, ◌<◌, ◌≤◌, Bool, true, false, cond, ◌&&◌, sym, refl, ap, ◌∙◌, arith}
+use Rattle.std.proofs.Common.{◌≡◌, ℕ, ◌+◌, ◌&&◌}
 use Rattle.memory.specs.declared.access.Right.TheVariants.{Read}
 use Rattle.memory.specs.Access.{has}
-use Rattle.memory.specs.Meaning.{Meaning, nowhere, granted}
+use Rattle.memory.specs.Meaning.{Meaning, granted}
 use Rattle.memory.proofs.Ranges.{each-split}
 
 -- the right to 16 bytes is the right to both words

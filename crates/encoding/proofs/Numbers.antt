@@ -1,5 +1,5 @@
 -- A number made of fields that fit has each of them, also after its sign was extended.
-use Rattle.std.proofs.Common.{◌≡◌, ℕ, suc, ◌+◌, ◌*◌, ◌/◌, ◌%◌, ◌^◌, ◌<◌, ◌≤◌, List, [], ◌∷◌, sym, ap, ◌∙◌, mul_comm, add_comm, div-one, arith}
+use Rattle.std.proofs.Common.{◌≡◌, ℕ, ◌+◌, ◌*◌, ◌/◌, ◌%◌, ◌^◌, ◌<◌, ◌≤◌, List, [], ◌∷◌, sym, ap, ◌∙◌, mul_comm, add_comm, div-one, arith}
 use Rattle.std.proofs.lemmas.Nat.{pow_pos, pow-add, mul-add-lt, shr-shr, shr_high, mod_low}
 use Rattle.integer.specs.Words.{signed, word_of}
 use Rattle.encoding.specs.Fields.{bits, Field, Stand, span, number, extended}

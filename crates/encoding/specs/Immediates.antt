@@ -1,5 +1,5 @@
 -- Immediates, as words: the fields that make up each, from its low bit to its high one.
-use Rattle.std.specs.Prelude.{ℕ, List, [], ◌∷◌}
+use Rattle.std.specs.Prelude.{ℕ, [], ◌∷◌}
 use Rattle.encoding.specs.Fields.{number, extended}
 use Rattle.encoding.specs.Fields.Field.{holds, ignored}
 

@@ -1,5 +1,5 @@
 -- Accesses that stay inside a page go to the bytes behind it.
-use Rattle.std.proofs.Common.{◌≡◌, ℕ, zero, suc, ◌+◌, ◌-◌, ◌*◌, ◌/◌, ◌%◌, ◌^◌, ◌<◌, ◌≤◌, Bool, true, false, cond, ◌&&◌, ltb, ◌⊎◌, List, [], ◌∷◌, length, get_or, Some, None, Ok, Err, Option, sym, refl, ap, ◌∙◌, inl, inr, ⊎_elim, arith}
+use Rattle.std.proofs.Common.{◌≡◌, ℕ, suc, ◌+◌, ◌-◌, ◌*◌, ◌/◌, ◌%◌, ◌^◌, ◌<◌, ◌≤◌, Bool, true, false, cond, ltb, ◌⊎◌, List, [], ◌∷◌, length, get_or, Some, None, Ok, Err, Option, sym, refl, ap, ◌∙◌, inl, inr, ⊎_elim, arith}
 use mathlib.Core.Path.{fun_ext}
 use Rattle.std.specs.Option.{option_map}
 use Rattle.std.proofs.lemmas.List.{get_or-take, length-take}
@@ -24,7 +24,7 @@ use Rattle.paged.specs.declared.page.Place.{Place}
 use Rattle.paged.specs.declared.table.PageTable.{PageTable}
 use Rattle.paged.specs.Tables.{pages_of}
 use Rattle.paged.specs.Pages.{index_of, location_at, no_page, paged, place_for}
-use Rattle.paged.proofs.Places.{Held, index-holds}
+use Rattle.paged.proofs.Places.{index-holds}
 
 -- every page of the list begins at a multiple of the page's size
 abbrev pub Aligned : List Page → Type 0

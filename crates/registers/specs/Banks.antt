@@ -1,5 +1,5 @@
 -- Which cell of its bank a register names, and what a bank holds after a write.
-use Rattle.std.specs.Prelude.{ℕ, zero, suc, ◌+◌, ◌-◌, ◌%◌, cond, ◌&&◌, List, Some, None, Option, ◌==◌, nat_lt, slice_index_or, slice_set}
+use Rattle.std.specs.Prelude.{ℕ, zero, suc, ◌+◌, ◌-◌, ◌%◌, cond, List, Some, None, Option, ◌==◌, nat_lt, slice_index_or, slice_set}
 use Rattle.registers.specs.declared.window.Window.{Window}
 
 -- the place in the window of its register k: the first ones turn, the others stand

@@ -1,5 +1,5 @@
 -- A frame as plain numbers, and what becomes of it at a call and at a return.
-use Rattle.std.specs.Prelude.{ℕ, ◌+◌, ◌-◌, Bool, cond, ◌&&◌, Ok, Err, Result, nat_le, nat_lt}
+use Rattle.std.specs.Prelude.{ℕ, ◌+◌, ◌-◌, Bool, cond, Ok, Err, Result, nat_le, nat_lt}
 use Rattle.registers.specs.declared.frame.Frame.{Frame}
 use Rattle.registers.specs.declared.frames.Misfit.{Misfit}
 use Rattle.registers.specs.declared.frames.Misfit.TheVariants.{Empty, Full}

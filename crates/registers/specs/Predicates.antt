@@ -1,5 +1,5 @@
 -- The predicates as one word, by cells.
-use Rattle.std.specs.Prelude.{ℕ, zero, suc, ◌+◌, ◌*◌, ◌^◌, Bool, true, false, cond, List, set, ◌==◌, slice_index_or, slice_set}
+use Rattle.std.specs.Prelude.{ℕ, zero, suc, ◌+◌, ◌^◌, Bool, true, false, cond, List, ◌==◌, slice_index_or, slice_set}
 use Rattle.integer.specs.Words.{bit}
 
 -- predicate cell k; that of predicate 0 is always true

@@ -5,6 +5,7 @@ ghost use Rattle.registers.specs.Names.{general_cell_of, predicate_cell_of};
 
 use crate::bank::name;
 use crate::frame::Frame;
+use crate::kind::{Generals, Predicates};
 use crate::marker::FrameMarker;
 use crate::window::Window;
 
@@ -29,7 +30,7 @@ impl Frame {
     pub fn general_cell(self, register: u16) -> Option<u16>
         ensures { result ≡ general_cell_of (marker_of self.marker) self.base register }
     {
-        name::<crate::kind::Generals>(self.window(), register)
+        name::<Generals>(self.window(), register)
     }
 }
 
@@ -53,6 +54,6 @@ impl FrameMarker {
     pub fn predicate_cell(self, predicate: u16) -> Option<u16>
         ensures { result ≡ predicate_cell_of (marker_of self) predicate }
     {
-        name::<crate::kind::Predicates>(self.predicate_window(), predicate)
+        name::<Predicates>(self.predicate_window(), predicate)
     }
 }

@@ -1,5 +1,5 @@
 // The predicates as one word, by cells: bit k is cell k, whatever the rename base.
-ghost use Rattle.std.specs.Prelude.{◌≡◌, ℕ, ◌^◌, ◌<◌, false, ◌&&◌, ltb, length, if◌then◌else◌, ◌==◌, nat_lt, slice_index_or};
+ghost use Rattle.std.specs.Prelude.{◌≡◌, ℕ, ◌^◌, ◌<◌, false, ◌&&◌, length, if◌then◌else◌, ◌==◌, nat_lt, slice_index_or};
 ghost use Rattle.integer.specs.Words.{bit};
 ghost use Rattle.registers.specs.Predicates.{masked, masked_from, predicate_in, word_below};
 
@@ -50,7 +50,7 @@ fn set_masked(cells: &mut [bool], at: usize, word: u64, mask: u64)
 // Writes the predicates of the mask from a word. Predicate 0 stays.
 pub fn set_predicate_word(cells: &mut [bool], word: u64, mask: u64)
     ensures whole { cells.new ≡ masked_from word mask 63 cells.old }
-    ensures each { (k : ℕ) → k < length cells.old → slice_index_or cells.new k false ≡ (if ltb 0 k && nat_lt k 64 && bit k mask == 1 then (bit k word == 1) else slice_index_or cells.old k false) }
+    ensures each { (k : ℕ) → k < length cells.old → slice_index_or cells.new k false ≡ (if nat_lt 0 k && nat_lt k 64 && bit k mask == 1 then (bit k word == 1) else slice_index_or cells.old k false) }
 {
     for i in 1..64 {
         set_masked(cells, i, word, mask);

@@ -1,5 +1,4 @@
-use Rattle.std.proofs.Common.{◌≡◌, ◌%◌, ◌^◌, ap, ◌∙◌, mod-eq_of_lt, rules}
-use Rattle.integer.specs.Words.{signed, word_of}
+use Rattle.std.proofs.Common.{◌≡◌, ◌%◌, ◌^◌, mod-eq_of_lt, rules}
 use Rattle.encoding.proofs.immediate.extend.Goals as goal
 
 pub returns-in-Some : goal.returns-in-Some

@@ -1,6 +1,6 @@
-use Rattle.std.proofs.Common.{◌≡◌, ◌≤◌, List, [], ◌∷◌, sym, subst, arith, rules}
+use Rattle.std.proofs.Common.{◌≡◌, List, [], ◌∷◌, sym, subst, arith}
 use Rattle.encoding.specs.Fields.{bits, Field, Stand, number}
-use Rattle.encoding.specs.Fields.Field.{holds, ignored}
+use Rattle.encoding.specs.Fields.Field.{holds}
 use Rattle.encoding.specs.Immediates.{number21}
 use Rattle.encoding.proofs.Numbers.{stands}
 use Rattle.encoding.proofs.immediate.imm21.Goals as goal

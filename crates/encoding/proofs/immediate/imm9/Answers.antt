@@ -1,6 +1,6 @@
-use Rattle.std.proofs.Common.{◌≡◌, ◌≤◌, List, [], ◌∷◌, arith, rules}
+use Rattle.std.proofs.Common.{◌≡◌, List, [], ◌∷◌, arith, rules}
 use Rattle.encoding.specs.Fields.{bits, Field, extended}
-use Rattle.encoding.specs.Fields.Field.{holds, ignored}
+use Rattle.encoding.specs.Fields.Field.{holds}
 use Rattle.encoding.specs.Immediates.{signed9}
 use Rattle.encoding.proofs.Numbers.{extended-stands}
 use Rattle.encoding.proofs.immediate.imm9.Goals as goal

@@ -1,4 +1,4 @@
-use Rattle.std.proofs.Common.{◌≡◌, ◌≤◌, List, [], ◌∷◌, arith, rules}
+use Rattle.std.proofs.Common.{◌≡◌, List, [], ◌∷◌, arith, rules}
 use Rattle.encoding.specs.Fields.{bits, Field, extended}
 use Rattle.encoding.specs.Fields.Field.{holds, ignored}
 use Rattle.encoding.specs.Immediates.{offset25}

@@ -6,6 +6,6 @@ pub returns-in-0 : goal.returns-in-0
 unfolding prefetch_of
 returns-in-0 c = search rules
 
-pub returns-in-default : goal.returns-in-default
+pub returns-in_default : goal.returns-in_default
 unfolding prefetch_of
-returns-in-default c = search rules
+returns-in_default c = search rules

@@ -1,4 +1,4 @@
-use Rattle.std.proofs.Common.{◌≡◌, ℕ, ◌+◌, ◌^◌, ◌<◌, ◌≤◌, Bool, sym, ap, ◌∙◌, arith}
+use Rattle.std.proofs.Common.{ℕ, ◌+◌, ◌^◌, ◌<◌, ◌≤◌, Bool, sym, ap, ◌∙◌, arith}
 use Rattle.memory.specs.Access.{bytes_of, has}
 use Rattle.memory.proofs.Ranges.{each_none, each_more, each-fail}
 use Rattle.memory.proofs.Top.{has-nowhere}

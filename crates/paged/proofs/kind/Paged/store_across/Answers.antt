@@ -1,4 +1,4 @@
-use Rattle.std.proofs.Common.{◌≡◌, ◌+◌, ◌/◌, ◌%◌, ◌^◌, get_or, sym, ap, ◌∙◌, arith}
+use Rattle.std.proofs.Common.{◌+◌, get_or, sym, ap, ◌∙◌, arith}
 use Rattle.memory.specs.declared.access.Right.TheVariants.{Write}
 use Rattle.memory.specs.Access.{bytes_of, has}
 use Rattle.memory.proofs.Loads.{granted-fits}

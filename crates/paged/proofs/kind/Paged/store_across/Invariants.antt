@@ -1,4 +1,4 @@
-use Rattle.std.proofs.Common.{◌≡◌, length}
+use Rattle.std.proofs.Common.{◌≡◌}
 use Rattle.memory.specs.Meaning.{put}
 use Rattle.paged.specs.Pages.{paged}
 use Rattle.paged.specs.Tables.{pages_of}

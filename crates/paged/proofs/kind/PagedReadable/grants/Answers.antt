@@ -1,4 +1,4 @@
-use Rattle.std.proofs.Common.{◌≡◌, sym, ◌∙◌, arith}
+use Rattle.std.proofs.Common.{sym, ◌∙◌, arith}
 use Rattle.paged.proofs.Accesses.{granted-none, page-denies, page-grants}
 use Rattle.paged.proofs.kind.PagedReadable.grants.Goals as goal
 

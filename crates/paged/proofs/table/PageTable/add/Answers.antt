@@ -1,4 +1,4 @@
-use Rattle.std.proofs.Common.{◌≡◌, is_some, sym, refl, ap, ◌∙◌, arith}
+use Rattle.std.proofs.Common.{is_some, sym, refl, ap, ◌∙◌, arith}
 use Rattle.std.proofs.lemmas.List.{length-set, take_more_set}
 use Rattle.paged.proofs.Maps.{map-full, map-no-room, map-bad, map-new, base-odd, base-taken, base-new, aligned-more, apart_more}
 use Rattle.paged.proofs.Places.{unfound}

@@ -1,4 +1,4 @@
-use Rattle.std.proofs.Common.{◌≡◌, ◌≤◌, length, arith}
+use Rattle.std.proofs.Common.{◌≤◌, length, arith}
 use Rattle.paged.proofs.Places.{found_at, found_none, found-only}
 use Rattle.paged.proofs.table.PageTable.find.Goals as goal
 
