@@ -142,7 +142,7 @@ fn data(heap: Global, count: usize) -> Result<Vec<u8>, AllocError> {
 }
 
 // What can go wrong: the set-up of a memory, its input or the machine that it runs on.
-#[derive(Drop)]
+#[derive(Debug, Drop)]
 enum Trouble {
     Refused(Refusal),
     CutInput,
