@@ -1,5 +1,5 @@
 -- The formats of the M unit's own instructions: the fields of each above its qualifying predicate, from bit 6 on.
-use Rattle.std.specs.Prelude.{◌≡◌, ℕ, ◌+◌, cond, List, [], ◌∷◌, Some, None, Option, ◌==◌}
+use Rattle.std.specs.Prelude.{◌≡◌, ℕ, ◌+◌, cond, List, [], ◌∷◌, Some, None, ◌==◌}
 use Rattle.encoding.specs.Fields.{bits, flag, Field, Stand, span}
 use Rattle.encoding.specs.Fields.Field.{holds, ignored}
 use Rattle.encoding.specs.Immediates.{signed8, signed9, offset25, parted25, number21}

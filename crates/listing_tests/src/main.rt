@@ -84,7 +84,7 @@ mod tests {
         let mut longer = [7; 101];
         assert_eq!(rt; list_bundle(&image, 0, &mut longer), Ok(()));
         assert!(rt; &longer[0..99] == ZERO_BUNDLE.as_bytes());
-        assert!(rt; &longer[99..101] == &[7, 7]);
+        assert!(rt; &longer[99..101] == [7, 7].as_slice());
     }
 
     #[test]
@@ -115,7 +115,7 @@ mod tests {
             list_bundle(&last_bundle, u64::MAX - 15, &mut buffer),
             Ok(())
         );
-        assert!(rt; &buffer[0..33] == b"FFFFFFFFFFFFFFF0 0 ? 1FFFFFFFFFF\n");
+        assert!(rt; &buffer[0..33] == b"FFFFFFFFFFFFFFF0 0 ? 1FFFFFFFFFF\n".as_slice());
         let half = Image::new(u64::MAX - 7, &[0xFF; 16]);
         assert_eq!(rt;
             list_bundle(&half, u64::MAX - 15, &mut buffer),

@@ -1,4 +1,4 @@
-use Rattle.std.proofs.Common.{◌≡◌, ℕ, ◌-◌, ◌*◌, ◌<◌, length, get_or}
+use Rattle.std.proofs.Common.{◌≡◌, ℕ, ◌-◌, ◌*◌, ◌<◌, get_or}
 use Rattle.integer.specs.Words.{field}
 use Rattle.listing.specs.Text.{hex_digit}
 use Rattle.listing.proofs.hex.write_hex.Given as goal

@@ -1,4 +1,4 @@
-use Rattle.std.proofs.Common.{◌≡◌, ◌++◌, length, drop, ap, ◌∙◌, rules}
+use Rattle.std.proofs.Common.{◌≡◌, length, ap, ◌∙◌, rules}
 use Rattle.listing.specs.Text.{slot_line}
 use Rattle.listing.proofs.Pieces.{three-lines, length-line}
 use Rattle.listing.proofs.lines.write_bundle.Goals as goal

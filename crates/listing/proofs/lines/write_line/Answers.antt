@@ -1,4 +1,4 @@
-use Rattle.std.proofs.Common.{◌≡◌, ◌+◌, [], ◌∷◌, ◌++◌, length, refl, ap, ◌∙◌, rules}
+use Rattle.std.proofs.Common.{◌≡◌, ◌+◌, [], ◌∷◌, length, ap, ◌∙◌, rules}
 use Rattle.listing.specs.Text.{hex_text, line}
 use Rattle.listing.proofs.Pieces.{four-pieces, length-hex}
 use Rattle.listing.proofs.lines.write_line.Goals as goal
