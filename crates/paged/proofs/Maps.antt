@@ -35,14 +35,14 @@ module _ (pages : List Page) (n room base : ℕ) (few : n ≤ length pages) wher
     pub map-new : new_base (take n pages) base ≡ true → Ok tt ≡ map_answer (take n pages) room base
     map-new e = sym (cond-false _ _ _ not_full ∙ cond-true _ _ _ e)
 
-pub base-odd : (ps : List Page) (base : ℕ) → (base % 4096 ≡ 0 → ⊥) → new_base ps base ≡ false
-base-odd ps base h = and_left (eqb (base % 4096) 0) _ (ne_eqb (base % 4096) 0 h)
+pub base-odd : (pages : List Page) (base : ℕ) → (base % 4096 ≡ 0 → ⊥) → new_base pages base ≡ false
+base-odd pages base h = and_left (eqb (base % 4096) 0) _ (ne_eqb (base % 4096) 0 h)
 
-pub base-taken : (ps : List Page) (base : ℕ) → is_some (index_of ps base) ≡ true → new_base ps base ≡ false
-base-taken ps base e = and_right (eqb (base % 4096) 0) _ (not_from_true _ e)
+pub base-taken : (pages : List Page) (base : ℕ) → is_some (index_of pages base) ≡ true → new_base pages base ≡ false
+base-taken pages base e = and_right (eqb (base % 4096) 0) _ (not_from_true _ e)
 
-pub base-new : (ps : List Page) (base : ℕ) → base % 4096 ≡ 0 → is_some (index_of ps base) ≡ false → new_base ps base ≡ true
-base-new ps base h e = and_from (eqb (base % 4096) 0) _ (eq-eqb (base % 4096) 0 h) (not_from_false _ e)
+pub base-new : (pages : List Page) (base : ℕ) → base % 4096 ≡ 0 → is_some (index_of pages base) ≡ false → new_base pages base ≡ true
+base-new pages base h e = and_from (eqb (base % 4096) 0) _ (eq-eqb (base % 4096) 0 h) (not_from_false _ e)
 
 -- what the table keeps when one page more is set behind n others
 module _ (pages : List Page) (n : ℕ) (page : Page) (whole : length pages ≡ 64) (free : n < 64) where
