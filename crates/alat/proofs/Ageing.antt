@@ -1,7 +1,7 @@
 -- A table of 16 entries, the youngest first.
-use Rattle.std.proofs.Common.{◌≡◌, ℕ, ◌+◌, ◌-◌, ◌<◌, ◌≤◌, Bool, not, eqb, List, [], ◌∷◌, ◌++◌, length, take, drop, set, filter, sym, refl, ap, ◌∙◌, subst, inl, inr, ⊎_elim, arith}
+use Rattle.std.proofs.Common.{◌≡◌, ℕ, ◌<◌, ◌≤◌, Bool, not, eqb, List, [], ◌∷◌, length, take, filter, sym, refl, ap, ◌∙◌, subst, inl, inr, ⊎_elim, arith}
 use Rattle.std.proofs.lemmas.List.Filters.{length-filter_both}
-use Rattle.std.proofs.lemmas.List.{append-nil, take_at, take_all, take_more_set, take-append-le, length-append, length-drop}
+use Rattle.std.proofs.lemmas.List.{take_at, take_all, length-append}
 use Rattle.std.proofs.lemmas.Bool.{cases_lt, eq-eqb, not_from_true, not_from_false}
 use Rattle.alat.specs.declared.entry.Entry.{Entry}
 use Rattle.alat.specs.Table.{In, others}
@@ -10,35 +10,6 @@ use Rattle.alat.specs.Kinds.{fully_associative}
 use Rattle.alat.specs.Promises.{Entered, KeepsIfRoom, LosesOldest}
 use Rattle.alat.specs.Rule.{Enter}
 use Rattle.alat.proofs.Held.{held_first}
-
--- ys are the n entries after the new one came to the front, tail what the other places hold, and zs all that would be held with room for it
-
-pub inserted-found : (n : ℕ) (ys tail zs : List Entry) → length ys ≡ n → n ≤ 16 → ys ++ [] ≡ zs → take n (ys ++ tail) ≡ take 16 zs
-inserted-found n ys tail zs l h q =
-    let e : ys ≡ zs = sym (append-nil ys) ∙ q in
-    take_at ys tail n l ∙ e ∙ sym (take_all 16 zs (omega (arith, ap length e)))
-
-pub inserted-full : (n : ℕ) (ys tail : List Entry) (last : Entry) (zs : List Entry) → length ys ≡ n → n ≡ 16 → ys ++ last ∷ [] ≡ zs → take n (ys ++ tail) ≡ take 16 zs
-inserted-full n ys tail last zs l h q = take_at ys tail n l ∙ sym (take_at ys (last ∷ []) 16 (l ∙ h)) ∙ ap (take 16) q
-
-pub inserted-more : (n : ℕ) (ys tail : List Entry) (last : Entry) (zs : List Entry) → length ys ≡ n → n < 16 → n < length (ys ++ tail) → ys ++ last ∷ [] ≡ zs → take (n + 1) (set (ys ++ tail) n last) ≡ take 16 zs
-inserted-more n ys tail last zs l h w q =
-    take_more_set (ys ++ tail) n last w ∙ ap (λ f. f ++ last ∷ []) (take_at ys tail n l) ∙ q
-    ∙ sym (take_all 16 zs (omega (arith, ap length q, length-append ys (last ∷ []))))
-
--- `&s[0..n]` is the first n entries
-pub from_start : {X : Type 0} (f : List Entry → X) (n : ℕ) (ps : List Entry) → f (take (n - 0) ps) ≡ f (take n ps)
-from_start f n ps = let z : n - 0 ≡ n = omega arith in ap (λ m. f (take m ps)) z
-
--- the places past them are there still
-pub room : (n : ℕ) (ys ps : List Entry) → length ys ≡ n → n < length ps → n < length (ys ++ drop (n - 0) ps)
-room n ys ps l h = omega (arith, length-append ys (drop (n - 0) ps), length-drop (n - 0) ps)
-
--- after a pass over the first n entries that keeps r of them
-pub retained : (r n : ℕ) (ys tail zs : List Entry) → length ys ≡ n → r ≤ n → take r ys ≡ zs → take r (ys ++ tail) ≡ zs
-retained r n ys tail zs l h q = take-append-le r ys tail (omega arith) ∙ q
-
--- what is promised
 
 some_in : (es : List Entry) (x : Entry) → In x es → 0 < length es
 some_in [] x i = absurd i

@@ -1,39 +1,24 @@
 -- What is held for a cell.
-use Rattle.std.proofs.Common.{◌≡◌, ℕ, eqb, List, [], ◌∷◌, ◌++◌, Some, None, sym, refl, ap, ◌∙◌, inl, inr, arith}
-use Rattle.std.proofs.lemmas.Bool.{cond-true, cond-false, cond_both, eqb-true, eq-eqb, ne_eqb}
+use Rattle.std.proofs.Common.{◌≡◌, ℕ, List, [], ◌∷◌, ◌++◌, Some, None, sym, refl, ap, ◌∙◌, inl, inr}
+use Rattle.std.proofs.lemmas.Bool.{cond-true, cond-false, eq-eqb, ne_eqb}
 use Rattle.alat.specs.declared.entry.Entry.{Entry}
 use Rattle.alat.specs.Table.{In, OneEach, held}
 
 -- the first entry is held, if it is of the cell
 pub held_first : (e : Entry) (es : List Entry) (cell : ℕ) → e.cell ≡ cell → held (e ∷ es) cell ≡ Some e
-unfolding held
 held_first e es cell q = cond-true _ _ _ (eq-eqb e.cell cell q)
 
-pub held_next : (e : Entry) (es : List Entry) (cell : ℕ) → (e.cell ≡ cell → ⊥) → held (e ∷ es) cell ≡ held es cell
-unfolding held
+held_next : (e : Entry) (es : List Entry) (cell : ℕ) → (e.cell ≡ cell → ⊥) → held (e ∷ es) cell ≡ held es cell
 held_next e es cell q = cond-false _ _ _ (ne_eqb e.cell cell q)
-
-pub held-nil : (cell : ℕ) → held [] cell ≡ None
-unfolding held
-held-nil cell = refl
 
 -- entries of other cells do not count
 pub held_none : (es : List Entry) (cell : ℕ) → ((x : Entry) → In x es → x.cell ≡ cell → ⊥) → held es cell ≡ None
-held_none [] cell h = held-nil cell
+held_none [] cell h = refl
 held_none (e ∷ es) cell h = held_next e es cell (h e (inl refl)) ∙ held_none es cell (λ x i. h x (inr i))
 
 pub held-append : (es fs : List Entry) (cell : ℕ) → ((x : Entry) → In x es → x.cell ≡ cell → ⊥) → held (es ++ fs) cell ≡ held fs cell
 held-append [] fs cell h = refl
 held-append (e ∷ es) fs cell h = held_next e (es ++ fs) cell (h e (inl refl)) ∙ held-append es fs cell (λ x i. h x (inr i))
-
--- what is held is in the list, and of the cell
-pub held_in : (es : List Entry) (cell : ℕ) (e : Entry) → held es cell ≡ Some e → In e es × (e.cell ≡ cell)
-unfolding held
-held_in [] cell e q = absurd (let z : ◌≡◌ {A = ℕ} 0 1 = cc in omega arith)
-held_in (y ∷ ys) cell e q =
-    cond_both (eqb y.cell cell) (Some y) (held ys cell) (λ o. o ≡ Some e → In e (y ∷ ys) × (e.cell ≡ cell))
-    (λ t r. let s : e ≡ y = cc in (inl s, ap (λ x. x.cell) s ∙ eqb-true y.cell cell t))
-    (λ _ r. let k = held_in ys cell e r in (inr k.0, k.1)) q
 
 -- with one entry for a cell at most, each that is in the list is held
 pub in_held : (es : List Entry) (e : Entry) → OneEach es → In e es → held es e.cell ≡ Some e

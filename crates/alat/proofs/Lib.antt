@@ -1,5 +1,4 @@
 pub mod Ageing
 pub mod Held
+pub mod Keeping
 pub mod Placing
-pub mod Sharing
-pub mod Shifting

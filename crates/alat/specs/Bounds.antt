@@ -1,12 +1,12 @@
 -- What the parts of a list of entries keep, from which each kind has its bounds.
 use Rattle.std.specs.Prelude.{◌≡◌, ℕ, zero, suc, ◌+◌, ◌<◌, ◌≤◌, Bool, true, false, not, ◌⊎◌, List, [], ◌∷◌, ◌++◌, take, filter, ◌==◌, ◌≢◌, refl}
-use Rattle.std.proofs.Common.{sym, ap, subst, ◌∙◌, inl, inr, ⊎_elim, arith}
+use Rattle.std.proofs.Common.{sym, ap, ◌∙◌, inl, inr, ⊎_elim, arith}
 use Rattle.std.proofs.lemmas.Bool.{cases_Bool, cases_lt, cond-true, cond-false, cond_both, both_ways, eqb-false, ne_eqb, ltb-true, lt-ltb, and_parts, and_from, not-true, not_from_false}
 use Rattle.memory.specs.Access.{bytes_of}
 use Rattle.memory.proofs.Ranges.{some_bytes}
-use Rattle.memory.specs.declared.access.Size.{Size}
+use Rattle.memory.specs.declared.access.Access.{Access}
 use Rattle.alat.specs.declared.entry.Entry.{Entry}
-use Rattle.alat.specs.Table.{In, OneEach, Repeated, SharesByte, shares_a_byte, others, untouched}
+use Rattle.alat.specs.Table.{In, OneEach, SharesByte, shares_a_byte, others, untouched}
 
 -- what a test keeps
 
@@ -37,29 +37,6 @@ kept-all p (e ∷ es) h = cond-true (p e) _ _ (h e (inl refl)) ∙ ap (λ l. e �
 pub kept-none : (p : Entry → Bool) (es : List Entry) → ((x : Entry) → In x es → p x ≡ false) → filter p es ≡ []
 kept-none p [] h = refl
 kept-none p (e ∷ es) h = cond-false (p e) _ _ (h e (inl refl)) ∙ kept-none p es (λ x i. h x (inr i))
-
--- no two entries of one cell, said in two ways
-
-pub unique_since : (es : List Entry) → (Repeated es → ⊥) → OneEach es
-unique_since [] h = tt
-unique_since (e ∷ es) h = (
-  λ x i q. h (record { front = []; first = e; back = es; second = x; split = refl; behind = i; same = q }),
-  unique_since es (λ r. h (record { front = e ∷ r.front; first = r.first; back = r.back; second = r.second; split = ap (λ l. e ∷ l) r.split; behind = r.behind; same = r.same })),
-)
-
-pub apart_in : (es front : List Entry) (e : Entry) (back : List Entry) (x : Entry) → OneEach es → es ≡ front ++ e ∷ back → In x back → x.cell ≢ e.cell
-apart_in [] [] e back x u q i = absurd (let z : ◌≡◌ {A = ℕ} 0 1 = cc in omega arith)
-apart_in [] (f ∷ front) e back x u q i = absurd (let z : ◌≡◌ {A = ℕ} 0 1 = cc in omega arith)
-apart_in (y ∷ ys) [] e back x u q i =
-    let same : y ≡ e = cc in
-    let rest : back ≡ ys = cc in
-    λ p. u.0 x (subst (In x) rest i) (p ∙ ap (λ z. z.cell) (sym same))
-apart_in (y ∷ ys) (f ∷ front) e back x u q i =
-    let rest : ys ≡ front ++ e ∷ back = cc in
-    apart_in ys front e back x u.1 rest i
-
-pub not-repeated : (es : List Entry) → OneEach es → Repeated es → ⊥
-not-repeated es u r = apart_in es r.front r.first r.back r.second u r.split r.behind r.same
 
 -- the front of a list
 
@@ -108,32 +85,32 @@ in-others cell es x i = let k = in_kept _ es x i in (k.0, other-cell cell x k.1)
 -- entries that share no byte
 
 -- where each begins before the other ends, they share the byte at which the later one begins
-pub common : (e : Entry) (address : ℕ) (size : Size) → address < e.address + bytes_of e.size → e.address < address + bytes_of size → SharesByte e address size
-common e address size p q =
-    let a = some_bytes e.size in
-    let b = some_bytes size in
-    ⊎_elim (λ l. (e.address, (omega arith, omega arith), (omega arith, omega arith)))
-    (λ l. (address, (omega arith, omega arith), (omega arith, omega arith))) (cases_lt address e.address)
+pub common : (e : Entry) (access : Access) → access.address < e.access.address + bytes_of e.access.size → e.access.address < access.address + bytes_of access.size → SharesByte e access
+common e access p q =
+    let a = some_bytes e.access.size in
+    let b = some_bytes access.size in
+    ⊎_elim (λ l. (e.access.address, (omega arith, omega arith), (omega arith, omega arith)))
+    (λ l. (access.address, (omega arith, omega arith), (omega arith, omega arith))) (cases_lt access.address e.access.address)
 
 -- an entry that shares no byte ends before the access begins, or begins after it ends
-pub apart : (e : Entry) (address : ℕ) (size : Size) → (SharesByte e address size → ⊥) → (e.address + bytes_of e.size ≤ address) ⊎ (address + bytes_of size ≤ e.address)
-apart e address size h =
-    ⊎_elim (λ p. ⊎_elim (λ q. absurd (h (common e address size p q))) inr (cases_lt e.address (address + bytes_of size))) inl
-    (cases_lt address (e.address + bytes_of e.size))
+pub apart : (e : Entry) (access : Access) → (SharesByte e access → ⊥) → (e.access.address + bytes_of e.access.size ≤ access.address) ⊎ (access.address + bytes_of access.size ≤ e.access.address)
+apart e access h =
+    ⊎_elim (λ p. ⊎_elim (λ q. absurd (h (common e access p q))) inr (cases_lt e.access.address (access.address + bytes_of access.size))) inl
+    (cases_lt access.address (e.access.address + bytes_of e.access.size))
 
-pub shares-true : (e : Entry) (address : ℕ) (size : Size) → SharesByte e address size → shares_a_byte e address size ≡ true
-shares-true e address size s =
-    let p : address < e.address + bytes_of e.size = omega (arith, s.1, s.2) in
-    let q : e.address < address + bytes_of size = omega (arith, s.1, s.2) in
+pub shares-true : (e : Entry) (access : Access) → SharesByte e access → shares_a_byte e access ≡ true
+shares-true e access s =
+    let p : access.address < e.access.address + bytes_of e.access.size = omega (arith, s.1, s.2) in
+    let q : e.access.address < access.address + bytes_of access.size = omega (arith, s.1, s.2) in
     and_from _ _ (lt-ltb _ _ p) (lt-ltb _ _ q)
 
-pub not-shared : (e : Entry) (address : ℕ) (size : Size) → not (shares_a_byte e address size) ≡ true → SharesByte e address size → ⊥
-not-shared e address size h s = both_ways (shares_a_byte e address size) (not-true _ h) (shares-true e address size s)
+pub not-shared : (e : Entry) (access : Access) → not (shares_a_byte e access) ≡ true → SharesByte e access → ⊥
+not-shared e access h s = both_ways (shares_a_byte e access) (not-true _ h) (shares-true e access s)
 
-pub is-untouched : (e : Entry) (address : ℕ) (size : Size) → (SharesByte e address size → ⊥) → not (shares_a_byte e address size) ≡ true
-is-untouched e address size h =
-    not_from_false _ (⊎_elim (λ t. let p = and_parts _ _ t in absurd (h (common e address size (ltb-true _ _ p.0) (ltb-true _ _ p.1)))) (λ f. f)
-    (cases_Bool (shares_a_byte e address size)))
+pub is-untouched : (e : Entry) (access : Access) → (SharesByte e access → ⊥) → not (shares_a_byte e access) ≡ true
+is-untouched e access h =
+    not_from_false _ (⊎_elim (λ t. let p = and_parts _ _ t in absurd (h (common e access (ltb-true _ _ p.0) (ltb-true _ _ p.1)))) (λ f. f)
+    (cases_Bool (shares_a_byte e access)))
 
-pub in-untouched : (address : ℕ) (size : Size) (es : List Entry) (x : Entry) → In x (untouched address size es) → In x es × (SharesByte x address size → ⊥)
-in-untouched address size es x i = let k = in_kept _ es x i in (k.0, not-shared x address size k.1)
+pub in-untouched : (access : Access) (es : List Entry) (x : Entry) → In x (untouched access es) → In x es × (SharesByte x access → ⊥)
+in-untouched access es x i = let k = in_kept _ es x i in (k.0, not-shared x access k.1)

@@ -15,7 +15,7 @@ keeps_nothing es request = []
 pub keeps_nothing_lawful : Lawful keeps_nothing
 keeps_nothing_lawful = record {
   enter = λ es e x i. absurd i;
-  «store» = λ es address size x i. absurd i;
+  «store» = λ es access x i. absurd i;
   remove = λ es cell x i. absurd i;
   clear = λ es x i. i;
   unique = λ es request u. tt;
@@ -36,7 +36,7 @@ beyond place = filter (λ x. nat_lt place (place_for x.cell))
 -- a new entry takes its place
 abbrev pub direct_mapped : Rule
 direct_mapped es (Enter e) = before (place_for e.cell) es ++ e ∷ beyond (place_for e.cell) es
-direct_mapped es (Store address size) = untouched address size es
+direct_mapped es (Store access) = untouched access es
 direct_mapped es (Remove cell) = others cell es
 direct_mapped es Clear = []
 
@@ -63,14 +63,14 @@ direct-unique es (Enter e) u =
     unique-append (before place es) (e ∷ beyond place es) (unique-kept _ es u)
     (λ x i q. below-differs e x (in-beyond place es x i).1 (sym q), unique-kept _ es u)
     (λ x y i j q. let l = (in-before place es x i).1 in below-differs x y (⊎_elim (λ p. omega (arith, ap (λ z. place_for z.cell) p)) (λ k. omega (arith, (in-beyond place es y k).1)) j) (sym q))
-direct-unique es (Store address size) u = unique-kept _ es u
+direct-unique es (Store access) u = unique-kept _ es u
 direct-unique es (Remove cell) u = unique-kept _ es u
 direct-unique es Clear u = tt
 
 pub direct_mapped_lawful : Lawful direct_mapped
 direct_mapped_lawful = record {
   enter = direct-enter;
-  «store» = λ es address size x i. in-untouched address size es x i;
+  «store» = λ es access x i. in-untouched access es x i;
   remove = λ es cell x i. in-others cell es x i;
   clear = λ es x i. i;
   unique = direct-unique;
@@ -80,7 +80,7 @@ direct_mapped_lawful = record {
 
 abbrev pub fully_associative : Rule
 fully_associative es (Enter e) = take 16 (e ∷ others e.cell es)
-fully_associative es (Store address size) = untouched address size es
+fully_associative es (Store access) = untouched access es
 fully_associative es (Remove cell) = others cell es
 fully_associative es Clear = []
 
@@ -89,14 +89,14 @@ associative-enter es e x i = ⊎_elim inl (λ j. inr (in-others e.cell es x j)) 
 
 associative-unique : (es : List Entry) (request : Request) → OneEach es → OneEach (fully_associative es request)
 associative-unique es (Enter e) u = unique-take 16 (e ∷ others e.cell es) (λ x i. (in-others e.cell es x i).1, unique-kept _ es u)
-associative-unique es (Store address size) u = unique-kept _ es u
+associative-unique es (Store access) u = unique-kept _ es u
 associative-unique es (Remove cell) u = unique-kept _ es u
 associative-unique es Clear u = tt
 
 pub fully_associative_lawful : Lawful fully_associative
 fully_associative_lawful = record {
   enter = associative-enter;
-  «store» = λ es address size x i. in-untouched address size es x i;
+  «store» = λ es access x i. in-untouched access es x i;
   remove = λ es cell x i. in-others cell es x i;
   clear = λ es x i. i;
   unique = associative-unique;

@@ -2,6 +2,5 @@ pub mod Table
 pub mod Rule
 pub mod Bounds
 pub mod Kinds
-pub mod Keeping
 pub mod Places
 pub mod Promises

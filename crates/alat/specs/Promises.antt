@@ -1,6 +1,6 @@
 -- What the kinds that keep entries promise not to lose.
 use Rattle.std.specs.Prelude.{◌≡◌, ℕ, ◌<◌, ◌⊎◌, List, [], ◌∷◌, ◌++◌, length, Some, ◌≢◌}
-use Rattle.memory.specs.declared.access.Size.{Size}
+use Rattle.memory.specs.declared.access.Access.{Access}
 use Rattle.alat.specs.declared.entry.Entry.{Entry}
 use Rattle.alat.specs.Table.{In, held, SharesByte}
 use Rattle.alat.specs.Kinds.{place_for}
@@ -14,8 +14,8 @@ abbrev pub KeepsOtherPlaces : List Entry → Entry → List Entry → Type 0
 KeepsOtherPlaces es e after = (x : Entry) → In x es → (place_for x.cell ≢ place_for e.cell) → In x after
 
 -- an old entry that shares no byte with a store stays
-abbrev pub KeepsApart : List Entry → ℕ → Size → List Entry → Type 0
-KeepsApart es address size after = (x : Entry) → In x es → (SharesByte x address size → ⊥) → In x after
+abbrev pub KeepsApart : List Entry → Access → List Entry → Type 0
+KeepsApart es access after = (x : Entry) → In x es → (SharesByte x access → ⊥) → In x after
 
 -- an old entry of another cell stays
 abbrev pub KeepsOthers : List Entry → ℕ → List Entry → Type 0

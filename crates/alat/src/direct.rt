@@ -1,18 +1,20 @@
 // A table of 32 places, in which an entry stands in the place of its cell's number modulo 32.
-ghost use Rattle.std.specs.Prelude.{◌≡◌, ◌<◌, map};
+ghost use Rattle.std.specs.Prelude.{◌≡◌, ◌<◌};
 ghost use Rattle.alat.specs.Kinds.{place_for, direct_mapped, direct_mapped_lawful};
-ghost use Rattle.alat.specs.Places.{listed, listed_unique, InPlace, if_of_cell, without_this_cell, without_shared_byte};
+ghost use Rattle.alat.specs.Places.{listed, listed_unique, InPlace};
 ghost use Rattle.alat.specs.Promises.{Entered, KeepsOtherPlaces, KeepsApart, KeepsOthers};
 ghost use Rattle.alat.specs.Rule.{Enter, Store, Remove};
 
 use crate::entry::Entry;
 use crate::table::Alat;
-use memory::Size;
+use memory::Access;
 
 const PLACES: usize = 32;
 
+// The trait's `unique` follows from the ghost field, which the value of a model would not have.
 #[derive(Drop)]
 pub struct DirectMapped {
+    // An array, since each cell has its place.
     places: [Option<Entry>; PLACES],
     ghost in_place: { InPlace places },
 }
@@ -25,45 +27,7 @@ fn place_of(cell: u16) -> usize
     cell as usize % PLACES
 }
 
-// What a place has for this cell.
-fn of_cell(place: Option<Entry>, cell: u16) -> Option<Entry>
-    ensures { result ≡ if_of_cell cell place }
-{
-    match place {
-        Some(entry) if entry.cell == cell => Some(entry),
-        _ => None,
-    }
-}
-
-// What a place holds when the entry of this cell is gone.
-fn without_cell(place: Option<Entry>, cell: u16) -> Option<Entry>
-    ensures { result ≡ without_this_cell cell place }
-{
-    match place {
-        Some(entry) if entry.cell == cell => None,
-        _ => place,
-    }
-}
-
-// What a place holds after a store.
-fn without_shared(place: Option<Entry>, address: u64, size: Size) -> Option<Entry>
-    ensures { result ≡ without_shared_byte address size place }
-{
-    match place {
-        Some(entry) if entry.shares_byte(address, size) => None,
-        _ => place,
-    }
-}
-
-// Carries a store out on each place.
-fn drop_shared(places: &mut [Option<Entry>], address: u64, size: Size)
-    ensures { places.new ≡ map (without_shared_byte address size) places.old }
-{
-    for place in places.iter_mut() {
-        *place = without_shared(*place, address, size);
-    }
-}
-
+// A method that has clauses of its own repeats the trait's, which it would lose.
 impl Alat for DirectMapped {
     ghost entries = { λ s. listed s.places };
 
@@ -87,19 +51,21 @@ impl Alat for DirectMapped {
         self.places[place_of(load.cell)] = Some(load);
     }
 
-    fn store(&mut self, address: u64, size: Size)
-        ensures after { listed self.new.places ≡ direct_mapped (listed self.old.places) (Store address size) }
-        ensures kept { KeepsApart (listed self.old.places) address size (listed self.new.places) }
+    fn store(&mut self, access: Access)
+        ensures after { listed self.new.places ≡ direct_mapped (listed self.old.places) (Store access) }
+        ensures kept { KeepsApart (listed self.old.places) access (listed self.new.places) }
     {
-        drop_shared(&mut self.places, address, size);
+        for place in &mut self.places {
+            *place = place.filter(|entry| !entry.shares_byte(access));
+        }
     }
 
     fn remove(&mut self, cell: u16)
         ensures after { listed self.new.places ≡ direct_mapped (listed self.old.places) (Remove cell) }
         ensures kept { KeepsOthers (listed self.old.places) cell (listed self.new.places) }
     {
-        let place = place_of(cell);
-        self.places[place] = without_cell(self.places[place], cell);
+        let place = &mut self.places[place_of(cell)];
+        *place = place.filter(|entry| entry.cell != cell);
     }
 
     fn clear(&mut self) {
@@ -107,6 +73,6 @@ impl Alat for DirectMapped {
     }
 
     fn find(&self, cell: u16) -> Option<Entry> {
-        of_cell(self.places[place_of(cell)], cell)
+        self.places[place_of(cell)].filter(|entry| entry.cell == cell)
     }
 }

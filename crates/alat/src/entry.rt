@@ -2,25 +2,25 @@
 ghost use Rattle.std.specs.Prelude.{◌≡◌, Decides};
 ghost use Rattle.alat.specs.Table.{SharesByte, shares_a_byte};
 
-use memory::Size;
+use memory::Access;
 
 // An advanced load that is remembered: the cell of the general bank that it filled, and the bytes that it read.
-#[derive(Clone, Copy)]
+#[derive(Clone, Copy, PartialEq, Eq, Debug, Default)]
 pub struct Entry {
     pub cell: u16,
-    pub address: u64,
-    pub size: Size,
+    pub access: Access,
 }
 
 impl Entry {
     // Whether some byte is both of the entry and of this access.
-    pub fn shares_byte(self, address: u64, size: Size) -> bool
-        ensures value { result ≡ shares_a_byte self address size }
-        ensures decides { Decides result (SharesByte self address size) }
+    pub fn shares_byte(self, access: Access) -> bool
+        ensures value { result ≡ shares_a_byte self access }
+        ensures decides { Decides result (SharesByte self access) }
     {
-        if self.address <= address {
-            return address - self.address < self.size.bytes();
+        if self.access.address <= access.address {
+            access.address - self.access.address < self.access.size.bytes()
+        } else {
+            self.access.address - access.address < access.size.bytes()
         }
-        self.address - address < size.bytes()
     }
 }

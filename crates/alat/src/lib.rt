@@ -5,7 +5,6 @@ mod associative;
 mod direct;
 mod entry;
 mod none;
-mod passes;
 mod table;
 
 pub use associative::FullyAssociative;

@@ -4,7 +4,7 @@ ghost use Rattle.alat.specs.Kinds.{keeps_nothing, keeps_nothing_lawful};
 
 use crate::entry::Entry;
 use crate::table::Alat;
-use memory::Size;
+use memory::Access;
 
 #[derive(Drop)]
 pub struct NoEntries;
@@ -24,7 +24,7 @@ impl Alat for NoEntries {
 
     fn enter(&mut self, _load: Entry) {}
 
-    fn store(&mut self, _address: u64, _size: Size) {}
+    fn store(&mut self, _access: Access) {}
 
     fn remove(&mut self, _cell: u16) {}
 

@@ -5,7 +5,7 @@ ghost use Rattle.alat.specs.Rule.{Rule, Lawful, Enter, Store, Remove, Clear};
 ghost use Rattle.alat.specs.Table.{OneEach, held};
 
 use crate::entry::Entry;
-use memory::Size;
+use memory::Access;
 
 pub trait Alat: Sized {
     // The entries that are held.
@@ -29,8 +29,8 @@ pub trait Alat: Sized {
         ensures { entries self.new ≡ rule (entries self.old) (Enter load) };
 
     // Forgets the loads of which this store may have changed a byte.
-    fn store(&mut self, address: u64, size: Size)
-        ensures { entries self.new ≡ rule (entries self.old) (Store address size) };
+    fn store(&mut self, access: Access)
+        ensures { entries self.new ≡ rule (entries self.old) (Store access) };
 
     // Forgets the load that filled the cell.
     fn remove(&mut self, cell: u16)

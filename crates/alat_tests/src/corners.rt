@@ -1,30 +1,32 @@
 // Tests at the corners of the kinds of ALAT.
 use alat::{Alat, DirectMapped, Entry, FullyAssociative, NoEntries};
-use memory::Size;
+use memory::{Access, Size};
 use std::process::Abort;
 
 fn entry(cell: u16, address: u64) -> Entry {
     Entry {
         cell,
-        address,
-        size: Size::Eight,
+        access: Access {
+            address,
+            size: Size::Eight,
+        },
     }
 }
 
 // Whether an 8-byte entry is held after a store.
-fn held_after<T: Alat + Drop>(address: u64, store: u64, size: Size) -> bool {
+fn held_after<T: Alat + Drop>(load: u64, address: u64, size: Size) -> bool {
     let mut table = T::new();
-    table.enter(entry(5, address));
-    table.store(store, size);
+    table.enter(entry(5, load));
+    table.store(Access { address, size });
     table.find(5).is_some()
 }
 
-// The address of the entry that is held for a cell, and 0 where there is none.
-fn address<T: Alat>(table: &T, cell: u16) -> u64 {
-    match table.find(cell) {
-        Some(entry) if entry.cell == cell => entry.address,
-        _ => 0,
-    }
+// The address of the entry that is held for a cell.
+fn address<T: Alat>(table: &T, cell: u16) -> Option<u64> {
+    table
+        .find(cell)
+        .filter(|entry| entry.cell == cell)
+        .map(|entry| entry.access.address)
 }
 
 fn stores_end_entries<T: Alat + Drop>(rt: &impl Abort) {
@@ -61,12 +63,12 @@ fn one_entry_for_a_cell<T: Alat + Drop>(rt: &impl Abort) {
     let mut table = T::new();
     table.enter(entry(4127, 0x1000));
     table.enter(entry(4127, 0x2000));
-    assert_eq!(rt; address(&table, 4127), 0x2000);
+    assert_eq!(rt; address(&table, 4127), Some(0x2000));
     table.remove(4127);
-    assert_eq!(rt; address(&table, 4127), 0);
+    assert_eq!(rt; address(&table, 4127), None);
     table.enter(entry(0, 0x1000));
     table.clear();
-    assert_eq!(rt; address(&table, 0), 0);
+    assert_eq!(rt; address(&table, 0), None);
 }
 
 #[test]
@@ -79,7 +81,7 @@ fn a_new_entry_replaces_the_old_one_of_its_cell(rt: HostRuntime) {
 fn nothing_is_kept(rt: HostRuntime) {
     let mut table = NoEntries::new();
     table.enter(entry(5, 0x1000));
-    assert_eq!(rt; address(&table, 5), 0);
+    assert_eq!(rt; address(&table, 5), None);
 }
 
 #[test]
@@ -88,10 +90,10 @@ fn cells_of_one_place_contend(rt: HostRuntime) {
     table.enter(entry(5, 0x1000));
     table.enter(entry(6, 0x2000));
     table.enter(entry(37, 0x3000));
-    assert_eq!(rt; address(&table, 5), 0);
-    assert_eq!(rt; address(&table, 6), 0x2000);
+    assert_eq!(rt; address(&table, 5), None);
+    assert_eq!(rt; address(&table, 6), Some(0x2000));
     table.remove(5);
-    assert_eq!(rt; address(&table, 37), 0x3000);
+    assert_eq!(rt; address(&table, 37), Some(0x3000));
 }
 
 #[test]
@@ -102,10 +104,10 @@ fn the_oldest_of_sixteen_is_lost(rt: HostRuntime) {
     }
     // cell 0 is entered again, and cell 1 only asked for
     table.enter(entry(0, 0x2000));
-    assert_eq!(rt; address(&table, 1), 0x1000);
+    assert_eq!(rt; address(&table, 1), Some(0x1000));
     table.enter(entry(16, 0x3000));
-    assert_eq!(rt; address(&table, 0), 0x2000);
-    assert_eq!(rt; address(&table, 1), 0);
-    assert_eq!(rt; address(&table, 2), 0x1000);
-    assert_eq!(rt; address(&table, 16), 0x3000);
+    assert_eq!(rt; address(&table, 0), Some(0x2000));
+    assert_eq!(rt; address(&table, 1), None);
+    assert_eq!(rt; address(&table, 2), Some(0x1000));
+    assert_eq!(rt; address(&table, 16), Some(0x3000));
 }

@@ -6,18 +6,14 @@ mod corners;
 mod requests;
 mod tables;
 
-use requests::{Request, parse};
+use requests::Request;
 use tables::Tables;
 
 fn run(rt: &HostRuntime) -> anyhow::Result<()> {
     let mut tables = Tables::new();
     for line in rt.lines(rt.alloc()) {
         let line = line?;
-        match parse(&line)? {
-            Request::Find(cell) => tables.show(rt, cell)?,
-            Request::List => tables.list(rt)?,
-            request => tables.tell(request),
-        }
+        tables.ask(rt, line.parse::<Request>()?)?;
     }
     Ok(())
 }

@@ -1,4 +1,4 @@
-// One table of each kind.
+// One table of each kind. The interface has `new`, so there is no `dyn Alat` to loop over.
 use crate::requests::Request;
 use alat::{Alat, DirectMapped, Entry, FullyAssociative, NoEntries};
 use std::io;
@@ -13,37 +13,36 @@ pub(crate) struct Tables {
     associative: FullyAssociative,
 }
 
-fn tell<T: Alat>(table: &mut T, request: Request) {
-    match request {
-        Request::Enter(load) => table.enter(load),
-        Request::Store(address, size) => table.store(address, size),
-        Request::Remove(cell) => table.remove(cell),
-        Request::Clear => table.clear(),
-        Request::Find(_) | Request::List => {}
-    }
-}
-
 fn print_entry(rt: &HostRuntime, entry: Entry) -> io::Result<()> {
     let cell = entry.cell;
-    let address = entry.address;
-    let size = entry.size.bytes();
+    let address = entry.access.address;
+    let size = entry.access.size.bytes();
     print!(rt; " {cell}:{address}:{size}")
 }
 
-fn show<T: Alat>(rt: &HostRuntime, table: &T, cell: u16) -> io::Result<()> {
-    match table.find(cell) {
-        Some(entry) => print_entry(rt, entry),
-        None => print!(rt; " none"),
-    }
-}
-
-fn list<T: Alat>(rt: &HostRuntime, table: &T) -> io::Result<()> {
-    for cell in 0..CELLS {
-        if let Some(entry) = table.find(cell) {
-            print_entry(rt, entry)?;
-        }
+// Prints all that the table holds, by cell.
+fn list<T: Alat>(rt: &HostRuntime, kind: &str, table: &T) -> io::Result<()> {
+    print!(rt; "{kind}")?;
+    for entry in (0..CELLS).filter_map(|cell| table.find(cell)) {
+        print_entry(rt, entry)?;
     }
     println!(rt; "")
+}
+
+// Makes a request of a table, and prints what it answers.
+fn ask<T: Alat>(rt: &HostRuntime, kind: &str, table: &mut T, request: Request) -> io::Result<()> {
+    match request {
+        Request::Enter(load) => table.enter(load),
+        Request::Store(access) => table.store(access),
+        Request::Remove(cell) => table.remove(cell),
+        Request::Clear => table.clear(),
+        Request::Find(cell) => match table.find(cell) {
+            Some(entry) => print_entry(rt, entry)?,
+            None => print!(rt; " none")?,
+        },
+        Request::List => list(rt, kind, table)?,
+    }
+    Ok(())
 }
 
 impl Tables {
@@ -55,29 +54,18 @@ impl Tables {
         }
     }
 
-    // Tells each table.
-    pub(crate) fn tell(&mut self, request: Request) {
-        tell(&mut self.none, request);
-        tell(&mut self.direct, request);
-        tell(&mut self.associative, request);
-    }
-
-    // Prints what each table holds for the cell.
-    pub(crate) fn show(&self, rt: &HostRuntime, cell: u16) -> io::Result<()> {
-        print!(rt; "find")?;
-        show(rt, &self.none, cell)?;
-        show(rt, &self.direct, cell)?;
-        show(rt, &self.associative, cell)?;
-        println!(rt; "")
-    }
-
-    // Prints all that each table holds, by cell.
-    pub(crate) fn list(&self, rt: &HostRuntime) -> io::Result<()> {
-        print!(rt; "none")?;
-        list(rt, &self.none)?;
-        print!(rt; "direct")?;
-        list(rt, &self.direct)?;
-        print!(rt; "associative")?;
-        list(rt, &self.associative)
+    // Makes the same request of each table. What they hold for a cell is printed in one line.
+    pub(crate) fn ask(&mut self, rt: &HostRuntime, request: Request) -> io::Result<()> {
+        let finds = matches!(request, Request::Find(_));
+        if finds {
+            print!(rt; "find")?;
+        }
+        ask(rt, "none", &mut self.none, request)?;
+        ask(rt, "direct", &mut self.direct, request)?;
+        ask(rt, "associative", &mut self.associative, request)?;
+        if finds {
+            println!(rt; "")?;
+        }
+        Ok(())
     }
 }

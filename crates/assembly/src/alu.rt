@@ -1,48 +1,26 @@
 // The text of the A-type instructions.
 use crate::compare::Completers;
-use crate::text::List::{Three, Two};
-use crate::text::Operand::{General, Predicate, Signed};
-use crate::text::{List, Text};
 use instruction_a::{Alu, CompareSize, ImmediateOperation, RegisterOperation};
-use integer::Scale;
+use std::fmt;
 
-fn register_text(operation: RegisterOperation, r1: u8, r2: u8, r3: u8) -> Text {
+// Functions and no `Display`: the enums are another crate's, where they have no text.
+
+// The mnemonic, and what follows the registers: the third source of two operations is the number 1.
+fn register_text(operation: RegisterOperation) -> (&'static str, &'static str) {
     match operation {
-        RegisterOperation::Add => Text::general("add", r1, r2, r3),
-        RegisterOperation::AddOne => one_text("add", r1, r2, r3),
-        RegisterOperation::Sub => Text::general("sub", r1, r2, r3),
-        RegisterOperation::SubOne => one_text("sub", r1, r2, r3),
-        RegisterOperation::Addp4 => Text::general("addp4", r1, r2, r3),
-        RegisterOperation::And => Text::general("and", r1, r2, r3),
-        RegisterOperation::Andcm => Text::general("andcm", r1, r2, r3),
-        RegisterOperation::Or => Text::general("or", r1, r2, r3),
-        RegisterOperation::Xor => Text::general("xor", r1, r2, r3),
+        RegisterOperation::Add => ("add", ""),
+        RegisterOperation::AddOne => ("add", ",1"),
+        RegisterOperation::Sub => ("sub", ""),
+        RegisterOperation::SubOne => ("sub", ",1"),
+        RegisterOperation::Addp4 => ("addp4", ""),
+        RegisterOperation::And => ("and", ""),
+        RegisterOperation::Andcm => ("andcm", ""),
+        RegisterOperation::Or => ("or", ""),
+        RegisterOperation::Xor => ("xor", ""),
     }
 }
 
-// An operation whose third source is the number 1.
-fn one_text(mnemonic: &'static str, r1: u8, r2: u8, r3: u8) -> Text {
-    Text::to(
-        mnemonic,
-        General(r1),
-        Three(General(r2), General(r3), Signed(1)),
-    )
-}
-
-fn shladd_text(mnemonic: &'static str, scale: Scale, r1: u8, r2: u8, r3: u8) -> Text {
-    let count = Signed(scale.bits() as u64);
-    Text::to(
-        mnemonic,
-        General(r1),
-        Three(General(r2), count, General(r3)),
-    )
-}
-
-fn immediate_text(mnemonic: &'static str, r1: u8, imm: u64, r3: u8) -> Text {
-    Text::to(mnemonic, General(r1), Two(Signed(imm), General(r3)))
-}
-
-fn operation_text(operation: ImmediateOperation) -> &'static str {
+fn immediate_text(operation: ImmediateOperation) -> &'static str {
     match operation {
         ImmediateOperation::Sub => "sub",
         ImmediateOperation::And => "and",
@@ -52,37 +30,45 @@ fn operation_text(operation: ImmediateOperation) -> &'static str {
     }
 }
 
-fn compare_text(size: CompareSize, completers: Completers, p1: u8, p2: u8, sources: List) -> Text {
-    let mnemonic = match size {
+fn compare_text(size: CompareSize) -> &'static str {
+    match size {
         CompareSize::Eight => "cmp",
         CompareSize::Four => "cmp4",
-    };
-    let targets = Two(Predicate(p1), Predicate(p2));
-    completers.complete(mnemonic, targets, sources)
+    }
 }
 
-// An addition of 0, and one to register 0, are written as moves.
-pub(crate) fn alu_text(alu: Alu) -> Text {
+// One arm for each record. An addition of 0, and one to register 0, are written as moves.
+pub(crate) fn write_alu<W: fmt::Write>(f: &mut fmt::Formatter<W>, alu: Alu) -> fmt::Result {
     match alu {
         Alu::Register {
             operation,
             r1,
             r2,
             r3,
-        } => register_text(operation, r1, r2, r3),
-        Alu::Shladd { scale, r1, r2, r3 } => shladd_text("shladd", scale, r1, r2, r3),
-        Alu::Shladdp4 { scale, r1, r2, r3 } => shladd_text("shladdp4", scale, r1, r2, r3),
+        } => {
+            let (mnemonic, one) = register_text(operation);
+            write!(f, "{mnemonic} r{r1}=r{r2},r{r3}{one}")
+        }
+        Alu::Shladd { scale, r1, r2, r3 } => {
+            write!(f, "shladd r{r1}=r{r2},{},r{r3}", scale.bits())
+        }
+        Alu::Shladdp4 { scale, r1, r2, r3 } => {
+            write!(f, "shladdp4 r{r1}=r{r2},{},r{r3}", scale.bits())
+        }
         Alu::Immediate {
             operation,
             r1,
             imm,
             r3,
-        } => immediate_text(operation_text(operation), r1, imm, r3),
-        Alu::Adds { r1, imm: 0, r3 } => Text::to_general("mov", r1, General(r3)),
-        Alu::Adds { r1, imm, r3 } => immediate_text("adds", r1, imm, r3),
-        Alu::Addp4 { r1, imm, r3 } => immediate_text("addp4", r1, imm, r3),
-        Alu::Addl { r1, imm, r3: 0 } => Text::to_general("mov", r1, Signed(imm)),
-        Alu::Addl { r1, imm, r3 } => immediate_text("addl", r1, imm, r3),
+        } => {
+            let mnemonic = immediate_text(operation);
+            write!(f, "{mnemonic} r{r1}={},r{r3}", imm.cast_signed())
+        }
+        Alu::Adds { r1, imm: 0, r3 } => write!(f, "mov r{r1}=r{r3}"),
+        Alu::Adds { r1, imm, r3 } => write!(f, "adds r{r1}={},r{r3}", imm.cast_signed()),
+        Alu::Addp4 { r1, imm, r3 } => write!(f, "addp4 r{r1}={},r{r3}", imm.cast_signed()),
+        Alu::Addl { r1, imm, r3: 0 } => write!(f, "mov r{r1}={}", imm.cast_signed()),
+        Alu::Addl { r1, imm, r3 } => write!(f, "addl r{r1}={},r{r3}", imm.cast_signed()),
         Alu::Compare {
             size,
             compare,
@@ -91,13 +77,8 @@ pub(crate) fn alu_text(alu: Alu) -> Text {
             r2,
             r3,
         } => {
-            compare_text(
-                size,
-                Completers::of_compare(compare),
-                p1,
-                p2,
-                Two(General(r2), General(r3)),
-            )
+            let compare = Completers::from(compare);
+            write!(f, "{}{compare} p{p1},p{p2}=r{r2},r{r3}", compare_text(size))
         }
         Alu::CompareZero {
             size,
@@ -107,13 +88,8 @@ pub(crate) fn alu_text(alu: Alu) -> Text {
             p2,
             r3,
         } => {
-            compare_text(
-                size,
-                Completers::of_zero(relation, parallel),
-                p1,
-                p2,
-                Two(General(0), General(r3)),
-            )
+            let compare = Completers::of_zero(relation, parallel);
+            write!(f, "{}{compare} p{p1},p{p2}=r0,r{r3}", compare_text(size))
         }
         Alu::CompareImmediate {
             size,
@@ -123,13 +99,9 @@ pub(crate) fn alu_text(alu: Alu) -> Text {
             imm,
             r3,
         } => {
-            compare_text(
-                size,
-                Completers::of_compare(compare),
-                p1,
-                p2,
-                Two(Signed(imm), General(r3)),
-            )
+            let compare = Completers::from(compare);
+            let imm = imm.cast_signed();
+            write!(f, "{}{compare} p{p1},p{p2}={imm},r{r3}", compare_text(size))
         }
     }
 }

@@ -1,11 +1,34 @@
 // The text of the B unit's instructions.
-use crate::text::List::{One, Two};
-use crate::text::Operand::Branch as Register;
-use crate::text::{List, Operand, Text, place};
+use crate::completer::completer_if;
 use instruction_b::{
     Branch, Counted, Hints, Indirect, Predicted, Prediction, Prefetch, Relative, Whether,
 };
+use std::fmt;
 
+// Where a branch goes.
+#[derive(Clone, Copy)]
+enum Target {
+    Address(u64),
+    Register(u8),
+}
+
+impl Target {
+    // The target that lies so many bytes after the address.
+    fn relative(address: u64, offset: u64) -> Target {
+        Target::Address(address.wrapping_add(offset))
+    }
+}
+
+impl fmt::Display for Target {
+    fn fmt<W: fmt::Write>(&self, f: &mut fmt::Formatter<W>) -> fmt::Result {
+        match *self {
+            Target::Address(address) => write!(f, "{address:#x}"),
+            Target::Register(number) => write!(f, "b{number}"),
+        }
+    }
+}
+
+// Functions and no `Display`: the enums are another crate's, where they have no text.
 fn whether_text(whether: Whether) -> &'static str {
     match whether {
         Whether::Sptk => ".sptk",
@@ -22,45 +45,42 @@ fn prefetch_text(prefetch: Prefetch) -> &'static str {
     }
 }
 
-fn clr_text(clr: bool) -> &'static str {
-    if clr { ".clr" } else { "" }
-}
+// The hints as completers.
+#[derive(Clone, Copy)]
+struct HintCompleters(Hints);
 
-fn hinted(mnemonic: &'static str, hints: Hints, targets: List, sources: List) -> Text {
-    let whether = whether_text(hints.whether);
-    let prefetch = prefetch_text(hints.prefetch);
-    Text {
-        mnemonic: [mnemonic, whether, prefetch, clr_text(hints.clr)],
-        targets,
-        sources,
+impl fmt::Display for HintCompleters {
+    fn fmt<W: fmt::Write>(&self, f: &mut fmt::Formatter<W>) -> fmt::Result {
+        let HintCompleters(hints) = *self;
+        f.write_str(whether_text(hints.whether))?;
+        f.write_str(prefetch_text(hints.prefetch))?;
+        f.write_str(completer_if(hints.clr, ".clr"))
     }
-}
-
-// A branch that writes no register.
-fn jump_text(mnemonic: &'static str, hints: Hints, target: Operand) -> Text {
-    hinted(mnemonic, hints, List::None, One(target))
 }
 
 // A conditional branch is written short where it is always taken, and so predicted.
-fn cond_text(qp: u8, hints: Hints, target: Operand) -> Text {
+fn write_cond<W: fmt::Write>(
+    f: &mut fmt::Formatter<W>,
+    qp: u8,
+    hints: Hints,
+    target: Target,
+) -> fmt::Result {
     match hints.whether {
         Whether::Sptk if qp == 0 => {
             let prefetch = prefetch_text(hints.prefetch);
-            Text {
-                mnemonic: ["br", prefetch, clr_text(hints.clr), ""],
-                targets: List::None,
-                sources: One(target),
-            }
+            let clr = completer_if(hints.clr, ".clr");
+            write!(f, "br{prefetch}{clr} {target}")
         }
-        _ => jump_text("br.cond", hints, target),
+        _ => write!(f, "br.cond{} {target}", HintCompleters(hints)),
     }
 }
 
+// Functions and no `Display`, as above.
 fn counted_text(branch: Counted) -> &'static str {
     match branch {
-        Counted::Cloop => "br.cloop",
-        Counted::Cexit => "br.cexit",
-        Counted::Ctop => "br.ctop",
+        Counted::Cloop => "cloop",
+        Counted::Cexit => "cexit",
+        Counted::Ctop => "ctop",
     }
 }
 
@@ -73,84 +93,77 @@ fn predicted_text(predicted: Predicted) -> &'static str {
     }
 }
 
-fn imp_text(imp: bool) -> &'static str {
-    if imp { ".imp" } else { "" }
-}
-
-fn predict_text(
+fn write_predict<W: fmt::Write>(
+    f: &mut fmt::Formatter<W>,
     mnemonic: &'static str,
     address: u64,
     prediction: Prediction,
-    target: Operand,
-) -> Text {
+    target: Target,
+) -> fmt::Result {
     let predicted = predicted_text(prediction.predicted);
-    let tag = place(address, prediction.tag);
-    Text {
-        mnemonic: [mnemonic, predicted, imp_text(prediction.imp), ""],
-        targets: List::None,
-        sources: Two(target, tag),
-    }
+    let imp = completer_if(prediction.imp, ".imp");
+    let tag = address.wrapping_add(prediction.tag);
+    write!(f, "{mnemonic}{predicted}{imp} {target},{tag:#x}")
 }
 
-pub(crate) fn branch_text(address: u64, qp: u8, branch: Branch) -> Text {
+// One arm for each record.
+pub(crate) fn write_branch<W: fmt::Write>(
+    f: &mut fmt::Formatter<W>,
+    address: u64,
+    qp: u8,
+    branch: Branch,
+) -> fmt::Result {
     match branch {
         Branch::Relative {
-            branch: Relative::Cond,
+            branch,
             hints,
             offset,
-        } => cond_text(qp, hints, place(address, offset)),
-        Branch::Relative {
-            branch: Relative::Wexit,
-            hints,
-            offset,
-        } => jump_text("br.wexit", hints, place(address, offset)),
-        Branch::Relative {
-            branch: Relative::Wtop,
-            hints,
-            offset,
-        } => jump_text("br.wtop", hints, place(address, offset)),
+        } => {
+            let target = Target::relative(address, offset);
+            match branch {
+                Relative::Cond => write_cond(f, qp, hints, target),
+                Relative::Wexit => write!(f, "br.wexit{} {target}", HintCompleters(hints)),
+                Relative::Wtop => write!(f, "br.wtop{} {target}", HintCompleters(hints)),
+            }
+        }
         Branch::Counted {
             branch,
             hints,
             offset,
-        } => jump_text(counted_text(branch), hints, place(address, offset)),
-        Branch::Call { hints, b1, offset } => {
-            hinted(
-                "br.call",
-                hints,
-                One(Register(b1)),
-                One(place(address, offset)),
-            )
+        } => {
+            let target = Target::relative(address, offset);
+            let hints = HintCompleters(hints);
+            write!(f, "br.{}{hints} {target}", counted_text(branch))
         }
-        Branch::Indirect {
-            branch: Indirect::Cond,
-            hints,
-            b2,
-        } => cond_text(qp, hints, Register(b2)),
-        Branch::Indirect {
-            branch: Indirect::Ret,
-            hints,
-            b2,
-        } => jump_text("br.ret", hints, Register(b2)),
+        Branch::Call { hints, b1, offset } => {
+            let target = Target::relative(address, offset);
+            write!(f, "br.call{} b{b1}={target}", HintCompleters(hints))
+        }
+        Branch::Indirect { branch, hints, b2 } => match branch {
+            Indirect::Cond => write_cond(f, qp, hints, Target::Register(b2)),
+            Indirect::Ret => write!(f, "br.ret{} b{b2}", HintCompleters(hints)),
+        },
         Branch::CallIndirect { hints, b1, b2, .. } => {
-            hinted("br.call", hints, One(Register(b1)), One(Register(b2)))
+            write!(f, "br.call{} b{b1}=b{b2}", HintCompleters(hints))
         }
         Branch::Predict { prediction, offset } => {
-            predict_text("brp", address, prediction, place(address, offset))
+            let target = Target::relative(address, offset);
+            write_predict(f, "brp", address, prediction, target)
         }
         Branch::PredictIndirect {
-            branch: Indirect::Cond,
+            branch,
             prediction,
             b2,
-        } => { predict_text("brp", address, prediction, Register(b2)) }
-        Branch::PredictIndirect {
-            branch: Indirect::Ret,
-            prediction,
-            b2,
-        } => { predict_text("brp.ret", address, prediction, Register(b2)) }
-        Branch::Clrrrb => Text::of("clrrrb", List::None),
-        Branch::ClrrrbPr => Text::of("clrrrb.pr", List::None),
-        Branch::Nop { imm } => Text::number("nop.b", imm),
-        Branch::Break { imm } => Text::number("break.b", imm),
+        } => {
+            let mnemonic = match branch {
+                Indirect::Cond => "brp",
+                Indirect::Ret => "brp.ret",
+            };
+            write_predict(f, mnemonic, address, prediction, Target::Register(b2))
+        }
+        Branch::Clrrrb => f.write_str("clrrrb"),
+        Branch::ClrrrbPr => f.write_str("clrrrb.pr"),
+        Branch::Nop { imm } => write!(f, "nop.b {imm:#x}"),
+        Branch::Break { imm } => write!(f, "break.b {imm:#x}"),
     }
 }

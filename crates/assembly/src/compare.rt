@@ -1,8 +1,8 @@
 // The completers of compares and of the tests of a bit.
-use crate::text::{List, Text};
 use encoding::Parallel;
 use instruction_a::{Compare, Relation, ZeroRelation};
 use instruction_i::Test;
+use std::fmt;
 
 // A relation and a type, each with its dot; the type none has no text.
 #[derive(Clone, Copy)]
@@ -11,6 +11,7 @@ pub(crate) struct Completers {
     kind: &'static str,
 }
 
+// Functions and no `Display`: the enums are another crate's, where they have no text.
 fn relation_text(relation: Relation) -> &'static str {
     match relation {
         Relation::Lt => ".lt",
@@ -27,8 +28,8 @@ fn parallel_text(parallel: Parallel) -> &'static str {
     }
 }
 
-impl Completers {
-    pub(crate) fn of_compare(compare: Compare) -> Completers {
+impl From<Compare> for Completers {
+    fn from(compare: Compare) -> Completers {
         let (relation, kind) = match compare {
             Compare::Normal(relation) => (relation_text(relation), ""),
             Compare::Unc(relation) => (relation_text(relation), ".unc"),
@@ -37,7 +38,22 @@ impl Completers {
         };
         Completers { relation, kind }
     }
+}
 
+impl From<Test> for Completers {
+    fn from(test: Test) -> Completers {
+        let (relation, kind) = match test {
+            Test::Normal => (".z", ""),
+            Test::Unc => (".z", ".unc"),
+            Test::Zero(parallel) => (".z", parallel_text(parallel)),
+            Test::Nonzero(parallel) => (".nz", parallel_text(parallel)),
+        };
+        Completers { relation, kind }
+    }
+}
+
+impl Completers {
+    // Of two values, so no `From`.
     pub(crate) fn of_zero(relation: ZeroRelation, parallel: Parallel) -> Completers {
         let relation = match relation {
             ZeroRelation::Gt => ".gt",
@@ -48,22 +64,11 @@ impl Completers {
         let kind = parallel_text(parallel);
         Completers { relation, kind }
     }
+}
 
-    pub(crate) fn of_test(test: Test) -> Completers {
-        let (relation, kind) = match test {
-            Test::Normal => (".z", ""),
-            Test::Unc => (".z", ".unc"),
-            Test::Zero(parallel) => (".z", parallel_text(parallel)),
-            Test::Nonzero(parallel) => (".nz", parallel_text(parallel)),
-        };
-        Completers { relation, kind }
-    }
-
-    pub(crate) fn complete(self, mnemonic: &'static str, targets: List, sources: List) -> Text {
-        Text {
-            mnemonic: [mnemonic, self.relation, self.kind, ""],
-            targets,
-            sources,
-        }
+impl fmt::Display for Completers {
+    fn fmt<W: fmt::Write>(&self, f: &mut fmt::Formatter<W>) -> fmt::Result {
+        f.write_str(self.relation)?;
+        f.write_str(self.kind)
     }
 }

@@ -1,19 +1,24 @@
 // The text of the instructions of the F unit, and of the L and X slots.
-use crate::text::Operand::Hex;
-use crate::text::Text;
 use instruction::{Extended, Floating};
+use std::fmt;
 
-pub(crate) fn floating_text(floating: Floating) -> Text {
+pub(crate) fn write_floating<W: fmt::Write>(
+    f: &mut fmt::Formatter<W>,
+    floating: Floating,
+) -> fmt::Result {
     match floating {
-        Floating::Nop { imm } => Text::number("nop.f", imm),
-        Floating::Break { imm } => Text::number("break.f", imm),
+        Floating::Nop { imm } => write!(f, "nop.f {imm:#x}"),
+        Floating::Break { imm } => write!(f, "break.f {imm:#x}"),
     }
 }
 
-pub(crate) fn extended_text(extended: Extended) -> Text {
+pub(crate) fn write_extended<W: fmt::Write>(
+    f: &mut fmt::Formatter<W>,
+    extended: Extended,
+) -> fmt::Result {
     match extended {
-        Extended::Movl { r1, imm } => Text::to_general("movl", r1, Hex(imm)),
-        Extended::Nop { imm } => Text::number("nop.x", imm),
-        Extended::Break { imm } => Text::number("break.x", imm),
+        Extended::Movl { r1, imm } => write!(f, "movl r{r1}={imm:#x}"),
+        Extended::Nop { imm } => write!(f, "nop.x {imm:#x}"),
+        Extended::Break { imm } => write!(f, "break.x {imm:#x}"),
     }
 }

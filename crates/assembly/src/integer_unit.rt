@@ -1,142 +1,85 @@
 // The text of the I unit's own instructions.
 use crate::compare::Completers;
-use crate::text::List::{Four, One, Three, Two};
-use crate::text::Operand::{Branch, General, Hex, Named, Predicate, Signed};
-use crate::text::{List, Operand, Text, check_text};
-use instruction_i::{Application, Integer, Test};
-use integer::{Length, Part, Position};
+use crate::completer::completer_if;
+use instruction_i::{Application, Integer};
+use integer::{BitField, Part};
+use std::fmt;
 
-fn application(register: Application) -> Operand {
+// Functions and no `Display`: the enums are another crate's, where they have no text.
+// The I unit and the M unit move different application registers, so each has an enum of its own.
+fn application_text(register: Application) -> &'static str {
     match register {
-        Application::Pfs => Named("ar.pfs"),
-        Application::Lc => Named("ar.lc"),
-        Application::Ec => Named("ar.ec"),
+        Application::Pfs => "ar.pfs",
+        Application::Lc => "ar.lc",
+        Application::Ec => "ar.ec",
     }
 }
 
-fn position_of(position: Position) -> Operand {
-    Signed(position.bit() as u64)
+// How many bytes are extended, as the mnemonic says.
+fn part_bytes(part: Part) -> u32 {
+    part.length().bits() / 8
 }
 
-fn length_of(length: Length) -> Operand {
-    Signed(length.bits() as u64)
+// A field as two operands.
+#[derive(Clone, Copy)]
+struct FieldOperands(BitField);
+
+impl fmt::Display for FieldOperands {
+    fn fmt<W: fmt::Write>(&self, f: &mut fmt::Formatter<W>) -> fmt::Result {
+        let FieldOperands(BitField { position, length }) = *self;
+        write!(f, "{},{}", position.bit(), length.bits())
+    }
 }
 
-fn shrp_text(r1: u8, r2: u8, r3: u8, count: Position) -> Text {
-    let sources = Three(General(r2), General(r3), position_of(count));
-    Text::to("shrp", General(r1), sources)
-}
-
-// What moves a field is written as a shift where the shift does the same.
-fn field_text(
+// What moves a field to or from the low bits is written as a shift where the shift does the same.
+fn write_move<W: fmt::Write>(
+    f: &mut fmt::Formatter<W>,
     mnemonics: (&'static str, &'static str),
     r1: u8,
     source: u8,
-    position: Position,
-    length: Length,
-) -> Text {
-    let (field, shift) = mnemonics;
-    let place = position_of(position);
-    if position.bit() + length.bits() == 64 {
-        return Text::to(shift, General(r1), Two(General(source), place));
-    }
-    Text::to(
-        field,
-        General(r1),
-        Three(General(source), place, length_of(length)),
-    )
-}
-
-// All ones, or zero.
-fn bits(ones: bool) -> Operand {
-    if ones { Signed(u64::MAX) } else { Signed(0) }
-}
-
-fn dep_text(r1: u8, source: Operand, r3: u8, position: Position, length: Length) -> Text {
-    let sources = Four(
-        source,
-        General(r3),
-        position_of(position),
-        length_of(length),
-    );
-    Text::to("dep", General(r1), sources)
-}
-
-fn dep_z_text(r1: u8, imm: u64, position: Position, length: Length) -> Text {
-    let sources = Three(Signed(imm), position_of(position), length_of(length));
-    Text::to("dep.z", General(r1), sources)
-}
-
-fn test_text(mnemonic: &'static str, test: Test, p1: u8, p2: u8, sources: List) -> Text {
-    let targets = Two(Predicate(p1), Predicate(p2));
-    Completers::of_test(test).complete(mnemonic, targets, sources)
-}
-
-fn sxt_text(part: Part) -> &'static str {
-    match part {
-        Part::One => "sxt1",
-        Part::Two => "sxt2",
-        Part::Four => "sxt4",
+    field: BitField,
+) -> fmt::Result {
+    let (mnemonic, shift) = mnemonics;
+    let position = field.position.bit();
+    if position + field.length.bits() == 64 {
+        write!(f, "{shift} r{r1}=r{source},{position}")
+    } else {
+        write!(f, "{mnemonic} r{r1}=r{source},{}", FieldOperands(field))
     }
 }
 
-fn zxt_text(part: Part) -> &'static str {
-    match part {
-        Part::One => "zxt1",
-        Part::Two => "zxt2",
-        Part::Four => "zxt4",
-    }
-}
-
-fn to_branch_text(ret: bool, b1: u8, r2: u8) -> Text {
-    let mnemonic = if ret { "mov.ret" } else { "mov" };
-    Text::to(mnemonic, Branch(b1), One(General(r2)))
-}
-
-pub(crate) fn integer_text(address: u64, integer: Integer) -> Text {
+// One arm for each record.
+pub(crate) fn write_integer<W: fmt::Write>(
+    f: &mut fmt::Formatter<W>,
+    address: u64,
+    integer: Integer,
+) -> fmt::Result {
     match integer {
-        Integer::Shl { r1, r2, r3 } => Text::general("shl", r1, r2, r3),
-        Integer::Shr { r1, r3, r2 } => Text::general("shr", r1, r3, r2),
-        Integer::ShrU { r1, r3, r2 } => Text::general("shr.u", r1, r3, r2),
-        Integer::Shrp { r1, r2, r3, count } => shrp_text(r1, r2, r3, count),
-        Integer::Extr {
-            r1,
-            r3,
-            position,
-            length,
-        } => field_text(("extr", "shr"), r1, r3, position, length),
-        Integer::ExtrU {
-            r1,
-            r3,
-            position,
-            length,
-        } => field_text(("extr.u", "shr.u"), r1, r3, position, length),
-        Integer::Dep {
-            r1,
-            r2,
-            r3,
-            position,
-            length,
-        } => dep_text(r1, General(r2), r3, position, length),
+        Integer::Shl { r1, r2, r3 } => write!(f, "shl r{r1}=r{r2},r{r3}"),
+        Integer::Shr { r1, r3, r2 } => write!(f, "shr r{r1}=r{r3},r{r2}"),
+        Integer::ShrU { r1, r3, r2 } => write!(f, "shr.u r{r1}=r{r3},r{r2}"),
+        Integer::Shrp { r1, r2, r3, count } => {
+            write!(f, "shrp r{r1}=r{r2},r{r3},{}", count.bit())
+        }
+        Integer::Extr { r1, r3, field } => write_move(f, ("extr", "shr"), r1, r3, field),
+        Integer::ExtrU { r1, r3, field } => write_move(f, ("extr.u", "shr.u"), r1, r3, field),
+        Integer::Dep { r1, r2, r3, field } => {
+            write!(f, "dep r{r1}=r{r2},r{r3},{}", FieldOperands(field))
+        }
         Integer::DepBits {
             r1,
             ones,
             r3,
-            position,
-            length,
-        } => dep_text(r1, bits(ones), r3, position, length),
-        Integer::DepZ {
-            r1,
-            r2,
-            position,
-            length,
-        } => field_text(("dep.z", "shl"), r1, r2, position, length),
-        Integer::DepZImmediate {
-            r1,
-            imm,
-            position,
-            length,
-        } => dep_z_text(r1, imm, position, length),
+            field,
+        } => {
+            let source = if ones { "-1" } else { "0" };
+            write!(f, "dep r{r1}={source},r{r3},{}", FieldOperands(field))
+        }
+        Integer::DepZ { r1, r2, field } => write_move(f, ("dep.z", "shl"), r1, r2, field),
+        Integer::DepZImmediate { r1, imm, field } => {
+            let imm = imm.cast_signed();
+            write!(f, "dep.z r{r1}={imm},{}", FieldOperands(field))
+        }
         Integer::Tbit {
             test,
             p1,
@@ -144,45 +87,39 @@ pub(crate) fn integer_text(address: u64, integer: Integer) -> Text {
             r3,
             position,
         } => {
-            test_text(
-                "tbit",
-                test,
-                p1,
-                p2,
-                Two(General(r3), position_of(position)),
-            )
+            let completers = Completers::from(test);
+            write!(f, "tbit{completers} p{p1},p{p2}=r{r3},{}", position.bit())
         }
-        Integer::Tnat { test, p1, p2, r3 } => test_text("tnat", test, p1, p2, One(General(r3))),
-        Integer::Popcnt { r1, r3 } => Text::to_general("popcnt", r1, General(r3)),
-        Integer::Sxt { part, r1, r3 } => Text::to_general(sxt_text(part), r1, General(r3)),
-        Integer::Zxt { part, r1, r3 } => Text::to_general(zxt_text(part), r1, General(r3)),
-        Integer::ChkS { r2, offset } => check_text("chk.s.i", r2, address, offset),
-        Integer::ToBranch { ret, b1, r2 } => to_branch_text(ret, b1, r2),
-        Integer::FromBranch { r1, b2 } => Text::to_general("mov", r1, Branch(b2)),
-        Integer::ToPredicates { r2, mask } => Text::to(
-            "mov",
-            Named("pr"),
-            Two(General(r2), Hex(mask)),
-        ),
-        Integer::ToRotating { imm } => Text::to("mov", Named("pr.rot"), One(Hex(imm))),
-        Integer::FromPredicates { r1 } => Text::to_general("mov", r1, Named("pr")),
-        Integer::FromIp { r1 } => Text::to_general("mov", r1, Named("ip")),
-        Integer::ToApplication { register, r2 } => Text::to(
-            "mov.i",
-            application(register),
-            One(General(r2)),
-        ),
-        Integer::ToApplicationImmediate { register, imm } => Text::to(
-            "mov.i",
-            application(register),
-            One(Signed(imm)),
-        ),
-        Integer::FromApplication { r1, register } => Text::to_general(
-            "mov.i",
-            r1,
-            application(register),
-        ),
-        Integer::Nop { imm } => Text::number("nop.i", imm),
-        Integer::Break { imm } => Text::number("break.i", imm),
+        Integer::Tnat { test, p1, p2, r3 } => {
+            let completers = Completers::from(test);
+            write!(f, "tnat{completers} p{p1},p{p2}=r{r3}")
+        }
+        Integer::Popcnt { r1, r3 } => write!(f, "popcnt r{r1}=r{r3}"),
+        Integer::Sxt { part, r1, r3 } => write!(f, "sxt{} r{r1}=r{r3}", part_bytes(part)),
+        Integer::Zxt { part, r1, r3 } => write!(f, "zxt{} r{r1}=r{r3}", part_bytes(part)),
+        Integer::ChkS { r2, offset } => {
+            write!(f, "chk.s.i r{r2},{:#x}", address.wrapping_add(offset))
+        }
+        Integer::ToBranch { ret, b1, r2 } => {
+            let ret = completer_if(ret, ".ret");
+            write!(f, "mov{ret} b{b1}=r{r2}")
+        }
+        Integer::FromBranch { r1, b2 } => write!(f, "mov r{r1}=b{b2}"),
+        Integer::ToPredicates { r2, mask } => write!(f, "mov pr=r{r2},{mask:#x}"),
+        Integer::ToRotating { imm } => write!(f, "mov pr.rot={imm:#x}"),
+        Integer::FromPredicates { r1 } => write!(f, "mov r{r1}=pr"),
+        Integer::FromIp { r1 } => write!(f, "mov r{r1}=ip"),
+        Integer::ToApplication { register, r2 } => {
+            write!(f, "mov.i {}=r{r2}", application_text(register))
+        }
+        Integer::ToApplicationImmediate { register, imm } => {
+            let register = application_text(register);
+            write!(f, "mov.i {register}={}", imm.cast_signed())
+        }
+        Integer::FromApplication { r1, register } => {
+            write!(f, "mov.i r{r1}={}", application_text(register))
+        }
+        Integer::Nop { imm } => write!(f, "nop.i {imm:#x}"),
+        Integer::Break { imm } => write!(f, "break.i {imm:#x}"),
     }
 }

@@ -4,11 +4,10 @@
 mod alu;
 mod branch_unit;
 mod compare;
+mod completer;
 mod extended;
 mod integer_unit;
 mod line;
 mod memory_unit;
-mod number;
-mod text;
 
 pub use line::Line;

@@ -1,23 +1,14 @@
 // The text of the M unit's own instructions.
-use crate::text::List::{Four, One, Two};
-use crate::text::Operand::{General, Hex, Named, Pointed, Signed};
-use crate::text::{List, Operand, Text, check_text};
+use crate::completer::completer_if;
 use instruction_m::{Application, BaseUpdate, Clear, Hint, LoadType, Memory};
-use memory::Size;
+use std::fmt;
 
-fn application(register: Application) -> Operand {
+// Functions and no `Display`: the enums are another crate's, where they have no text.
+// The I unit and the M unit move different application registers, so each has an enum of its own.
+fn application_text(register: Application) -> &'static str {
     match register {
-        Application::Ccv => Named("ar.ccv"),
-        Application::Unat => Named("ar.unat"),
-    }
-}
-
-fn size_text(size: Size) -> &'static str {
-    match size {
-        Size::One => "1",
-        Size::Two => "2",
-        Size::Four => "4",
-        Size::Eight => "8",
+        Application::Ccv => "ar.ccv",
+        Application::Unat => "ar.unat",
     }
 }
 
@@ -35,88 +26,40 @@ fn type_text(load_type: LoadType) -> &'static str {
     }
 }
 
-fn load_hint(hint: Hint) -> &'static str {
+// The hint's completer. The text of `Nt1` is not the same at a load and at a store.
+fn hint_text(hint: Hint, nt1: &'static str) -> &'static str {
     match hint {
         Hint::None => "",
-        Hint::Nt1 => ".nt1",
+        Hint::Nt1 => nt1,
         Hint::Two => ".d2",
         Hint::Nta => ".nta",
     }
 }
 
-fn store_hint(hint: Hint) -> &'static str {
-    match hint {
-        Hint::None => "",
-        Hint::Nt1 => ".d1",
-        Hint::Two => ".d2",
-        Hint::Nta => ".nta",
-    }
-}
-
-fn release_text(release: bool) -> &'static str {
-    if release { ".rel" } else { "" }
-}
-
-// A load; `size` and `completer` are the text of the two.
-fn load_text(
-    size: &'static str,
-    completer: &'static str,
-    hint: Hint,
-    r1: u8,
-    r3: u8,
-    update: BaseUpdate,
-) -> Text {
-    let sources = match update {
-        BaseUpdate::None => One(Pointed(r3)),
-        BaseUpdate::Register(r2) => Two(Pointed(r3), General(r2)),
-        BaseUpdate::Immediate(imm) => Two(Pointed(r3), Signed(imm)),
-    };
-    Text {
-        mnemonic: ["ld", size, completer, load_hint(hint)],
-        targets: One(General(r1)),
-        sources,
-    }
-}
-
-// A store; `size` and `completer` are the text of the two.
-fn store_text(
-    size: &'static str,
-    completer: &'static str,
-    hint: Hint,
-    r3: u8,
-    r2: u8,
-    increment: Option<u64>,
-) -> Text {
-    let sources = match increment {
-        None => One(General(r2)),
-        Some(imm) => Two(General(r2), Signed(imm)),
-    };
-    Text {
-        mnemonic: ["st", size, completer, store_hint(hint)],
-        targets: One(Pointed(r3)),
-        sources,
-    }
-}
-
-fn check_mnemonic(clear: Clear) -> &'static str {
+fn clear_text(clear: Clear) -> &'static str {
     match clear {
-        Clear::Clr => "chk.a.clr",
-        Clear::Nc => "chk.a.nc",
+        Clear::Clr => ".clr",
+        Clear::Nc => ".nc",
     }
 }
 
-fn alloc_text(r1: u8, sof: u8, sol: u8, sor: u8) -> Text {
-    let rotating = Signed(8 * sor as u64);
-    let sources = Four(
-        Named("ar.pfs"),
-        Signed(sof as u64),
-        Signed(sol as u64),
-        rotating,
-    );
-    Text::to("alloc", General(r1), sources)
+fn write_update<W: fmt::Write>(
+    f: &mut fmt::Formatter<W>,
+    update: Option<BaseUpdate>,
+) -> fmt::Result {
+    match update {
+        None => Ok(()),
+        Some(BaseUpdate::Register(r2)) => write!(f, ",r{r2}"),
+        Some(BaseUpdate::Immediate(imm)) => write!(f, ",{}", imm.cast_signed()),
+    }
 }
 
-pub(crate) fn memory_text(address: u64, memory: Memory) -> Text {
+// One arm for each record.
+pub(crate) fn write_memory<W: fmt::Write>(
+    f: &mut fmt::Formatter<W>,
+    address: u64,
+    memory: Memory,
+) -> fmt::Result {
     match memory {
         Memory::Load {
             load_type,
@@ -125,13 +68,21 @@ pub(crate) fn memory_text(address: u64, memory: Memory) -> Text {
             r1,
             r3,
             update,
-        } => { load_text(size_text(size), type_text(load_type), hint, r1, r3, update) }
+        } => {
+            let load_type = type_text(load_type);
+            let hint = hint_text(hint, ".nt1");
+            write!(f, "ld{}{load_type}{hint} r{r1}=[r{r3}]", size.bytes())?;
+            write_update(f, update)
+        }
         Memory::Fill {
             hint,
             r1,
             r3,
             update,
-        } => load_text("8", ".fill", hint, r1, r3, update),
+        } => {
+            write!(f, "ld8.fill{} r{r1}=[r{r3}]", hint_text(hint, ".nt1"))?;
+            write_update(f, update)
+        }
         Memory::Store {
             release,
             size,
@@ -140,48 +91,44 @@ pub(crate) fn memory_text(address: u64, memory: Memory) -> Text {
             r2,
             increment,
         } => {
-            store_text(
-                size_text(size),
-                release_text(release),
-                hint,
-                r3,
-                r2,
-                increment,
-            )
+            let release = completer_if(release, ".rel");
+            let hint = hint_text(hint, ".d1");
+            write!(f, "st{}{release}{hint} [r{r3}]=r{r2}", size.bytes())?;
+            write_update(f, increment.map(BaseUpdate::Immediate))
         }
         Memory::Spill {
             hint,
             r3,
             r2,
             increment,
-        } => store_text("8", ".spill", hint, r3, r2, increment),
-        Memory::ChkS { r2, offset } => check_text("chk.s.m", r2, address, offset),
-        Memory::ChkA { clear, r1, offset } => check_text(
-            check_mnemonic(clear),
-            r1,
-            address,
-            offset,
-        ),
-        Memory::Invala => Text::of("invala", List::None),
-        Memory::InvalaE { r1 } => Text::of("invala.e", One(General(r1))),
-        Memory::Mf => Text::of("mf", List::None),
-        Memory::Alloc { r1, sof, sol, sor } => alloc_text(r1, sof, sol, sor),
-        Memory::ToApplication { register, r2 } => Text::to(
-            "mov.m",
-            application(register),
-            One(General(r2)),
-        ),
-        Memory::ToApplicationImmediate { register, imm } => Text::to(
-            "mov.m",
-            application(register),
-            One(Signed(imm)),
-        ),
-        Memory::FromApplication { r1, register } => Text::to_general(
-            "mov.m",
-            r1,
-            application(register),
-        ),
-        Memory::Nop { imm } => Text::number("nop.m", imm),
-        Memory::Break { imm } => Text::number("break.m", imm),
+        } => {
+            write!(f, "st8.spill{} [r{r3}]=r{r2}", hint_text(hint, ".d1"))?;
+            write_update(f, increment.map(BaseUpdate::Immediate))
+        }
+        Memory::ChkS { r2, offset } => {
+            write!(f, "chk.s.m r{r2},{:#x}", address.wrapping_add(offset))
+        }
+        Memory::ChkA { clear, r1, offset } => {
+            let clear = clear_text(clear);
+            write!(f, "chk.a{clear} r{r1},{:#x}", address.wrapping_add(offset))
+        }
+        Memory::Invala => f.write_str("invala"),
+        Memory::InvalaE { r1 } => write!(f, "invala.e r{r1}"),
+        Memory::Mf => f.write_str("mf"),
+        Memory::Alloc { r1, sof, sol, sor } => {
+            write!(f, "alloc r{r1}=ar.pfs,{sof},{sol},{}", 8 * sor as u32)
+        }
+        Memory::ToApplication { register, r2 } => {
+            write!(f, "mov.m {}=r{r2}", application_text(register))
+        }
+        Memory::ToApplicationImmediate { register, imm } => {
+            let register = application_text(register);
+            write!(f, "mov.m {register}={}", imm.cast_signed())
+        }
+        Memory::FromApplication { r1, register } => {
+            write!(f, "mov.m r{r1}={}", application_text(register))
+        }
+        Memory::Nop { imm } => write!(f, "nop.m {imm:#x}"),
+        Memory::Break { imm } => write!(f, "break.m {imm:#x}"),
     }
 }

@@ -6,5 +6,5 @@ use Rattle.memory.specs.Meaning.{Meaning, granted}
 use Rattle.memory.proofs.Ranges.{each-split}
 
 -- the right to 16 bytes is the right to both words
-pub granted-both : (m : Meaning) (a : ℕ) → granted m Read a 16 ≡ (granted m Read a 8 && granted m Read (a + 8) 8)
-granted-both m a = each-split (λ x. has (m x).rights Read) a 8 8
+pub granted_both : (m : Meaning) (a : ℕ) → granted m Read a 16 ≡ (granted m Read a 8 && granted m Read (a + 8) 8)
+granted_both m a = each-split (λ x. has (m x).rights Read) a 8 8

@@ -5,4 +5,4 @@ mod split;
 mod template;
 
 pub use split::Bundle;
-pub use template::{Template, Unit};
+pub use template::{Template, Unit, UnknownTemplate};

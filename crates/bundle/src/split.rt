@@ -4,10 +4,10 @@ ghost use Rattle.bundle.specs.Fetching.{fetched};
 ghost use Rattle.bundle.specs.Fields.{bits, slot};
 ghost use Rattle.integer.specs.Words.{field};
 
-use memory::{MissingRight, Readable, Size};
+use memory::{Access, MissingRight, Readable, Size};
 
 // A bundle as it stands in memory: two 64-bit words, the low one first.
-#[derive(Clone, Copy)]
+#[derive(Clone, Copy, PartialEq, Eq, Debug)]
 pub struct Bundle {
     pub low: u64,
     pub high: u64,
@@ -15,20 +15,19 @@ pub struct Bundle {
 
 impl Bundle {
     // The 16 bytes at the address, if each of them may be read.
+    #[tactic(auto, using(crate::proofs::Fetches::granted_both))]
     pub fn fetch<M: Readable>(memory: &M, address: u64) -> Result<Bundle, MissingRight>
         ensures { result ≡ fetched (M.meaning memory.now) address }
     {
-        let Some(next) = address.checked_add(8) else {
-            return Err(MissingRight { address });
-        };
-        let low = memory.load(address, Size::Eight)?;
-        match memory.load(next, Size::Eight) {
-            Ok(high) => Ok(Bundle { low, high }),
-            Err(_) => Err(MissingRight { address }),
-        }
+        let missing = MissingRight { address };
+        let size = Size::Eight;
+        let low = memory.load(Access { address, size })?;
+        let address = address.checked_add(8).ok_or(missing)?;
+        let high = memory.load(Access { address, size }).map_err(|_| missing)?;
+        Ok(Bundle { low, high })
     }
 
-    // The template's number and the three slots.
+    // The template's number and the three slots: a tuple, since every caller takes all four apart at once.
     pub fn split(self) -> (u8, u64, u64, u64)
         ensures template { result.0 ≡ field (bits self) 0 5 }
         ensures slot0 { result.1 ≡ slot (bits self) 0 }

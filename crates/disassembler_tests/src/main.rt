@@ -1,4 +1,5 @@
-// Writes a second image as assembler text: the sample program, and slots that hold no carried instruction.
+// Writes a second image as assembler text: the sample program, and slots that hold no carried instruction. It is a program of its own,
+// since each program is run on one input.
 #![tactic(auto)]
 
 use disassembly::Disassembly;

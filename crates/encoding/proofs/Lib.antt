@@ -1,3 +1,4 @@
-pub mod Numbers
-pub mod Places
+pub mod Joining
+pub mod Parts
+pub mod Shifts
 pub mod Signs

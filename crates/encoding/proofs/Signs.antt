@@ -1,9 +1,8 @@
 -- The low bits of a number whose sign was extended.
-use Rattle.std.proofs.Common.{◌≡◌, ℕ, suc, ◌+◌, ◌-◌, ◌*◌, ◌/◌, ◌%◌, ◌^◌, ◌<◌, ◌≤◌, sym, ap, ◌∙◌, inl, inr, mod-eq_of_lt, suc-mul, arith}
-use lib.Pow.{mod-mod-pow}
-use Rattle.std.proofs.lemmas.Nat.{pow_pos, pow-add, mod_low, field_of}
+use Rattle.std.proofs.Common.{◌≡◌, ℕ, suc, ◌+◌, ◌-◌, ◌*◌, ◌%◌, ◌^◌, ◌<◌, ◌≤◌, sym, ap, ◌∙◌, inl, inr, mod-eq_of_lt, suc-mul, arith}
+use Rattle.std.proofs.lemmas.Nat.{pow_pos, pow-add, mod_low}
 use Rattle.std.proofs.lemmas.Bool.{cond-true, cond-false, lt-ltb, le-ltb, cases_lt}
-use Rattle.integer.specs.Words.{field, signed, word_of}
+use Rattle.integer.specs.Words.{signed, word_of}
 
 -- the word that a negative number leaves, as a multiple of 2 ^ n above it
 spread : (n x : ℕ) → n ≤ 64 → x < 2 ^ n → 2 ^ 64 - suc (2 ^ n - suc x) ≡ (2 ^ (64 - n) - 1) * 2 ^ n + x
@@ -22,13 +21,3 @@ low_bits n x few small =
       | inl h ↦ ap (λ w. word_of w % 2 ^ n) (cond-true _ _ _ (lt-ltb _ _ h)) ∙ mod-eq_of_lt small
       | inr h ↦ ap (λ w. word_of w % 2 ^ n) (cond-false _ _ _ (le-ltb _ _ h)) ∙ ap (λ w. w % 2 ^ n) (spread n x few small) ∙ mod_low (2 ^ (64 - n) - 1) n x small
     ]
-
--- so a field of the low n bits is that field of the number
-pub kept : (n x e first width : ℕ) → n ≤ 64 → x < 2 ^ n → e ≡ word_of (signed n x) → first + width ≤ n → field e first width ≡ field x first width
-kept n x e first width few small h within =
-    let d : ℕ = n - (width + first) in
-    let whole : d + (width + first) ≡ n = omega arith in
-    let low : e % 2 ^ n ≡ x = ap (λ w. w % 2 ^ n) h ∙ low_bits n x few small in
-    sym (field_of e width first)
-    ∙ ap (λ w. w / 2 ^ first) (sym (mod-mod-pow e d (width + first)) ∙ ap (λ k. e % 2 ^ k % 2 ^ (width + first)) whole ∙ ap (λ w. w % 2 ^ (width + first)) low)
-    ∙ field_of x width first

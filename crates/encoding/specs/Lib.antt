@@ -1,4 +1,5 @@
 pub mod Fields
 pub mod Immediates
+pub mod Parts
 pub mod Places
 pub mod Reading

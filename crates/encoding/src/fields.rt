@@ -1,20 +1,16 @@
-// Fields of a slot.
+// Fields of a slot, by first bit and width as the formats write them; a `BitField` of integer, whose numbers are tested, would make each of the
+// many calls longer.
 ghost use Rattle.std.specs.Prelude.{◌≡◌, ◌/◌, ◌^◌, ◌<◌, min};
 ghost use Rattle.encoding.specs.Fields.{bits};
 
-// What stands from bit `first` on.
-fn shifted(slot: u64, first: u32) -> u64
-    ensures { result ≡ slot / 2 ^ first }
-{
-    if first < 64 { slot >> first } else { 0 }
-}
+use integer::shr_u;
 
 // The field of `width` bits whose lowest bit is bit `first`.
 pub fn field(slot: u64, first: u32, width: u32) -> u64
     ensures value { result ≡ bits first width slot }
     ensures below { result < 2 ^ width }
 {
-    let high = shifted(slot, first);
+    let high = shr_u(slot, u64::from(first));
     if width < 64 {
         high % (1 << width)
     } else {

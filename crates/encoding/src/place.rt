@@ -1,4 +1,6 @@
 // Positions and lengths as they stand in a slot.
+#![tactic(auto, unfolding(crate::specs::Places::place, crate::specs::Places::place_from_top, crate::specs::Places::extent))]
+
 ghost use Rattle.std.specs.Prelude.{◌≡◌, ◌-◌};
 ghost use Rattle.encoding.specs.Fields.{bits};
 ghost use Rattle.encoding.specs.Places.{extent, place, place_from_top};
@@ -30,7 +32,7 @@ pub fn length(slot: u64, first: u32) -> Length
     Length::from_low_bits(small(slot, first, 6))
 }
 
-// The same in four bits.
+// The same in four bits. With the width as an argument each call would have a number more, and a width could be one that no format has.
 pub fn short_length(slot: u64, first: u32) -> Length
     ensures value { result ≡ extent (bits first 4 slot) }
     ensures field { bits first 4 slot ≡ result.bits - 1 }

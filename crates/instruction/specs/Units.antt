@@ -1,5 +1,5 @@
 -- What the slot of a unit holds, and what the L slot and the X slot hold together.
-use Rattle.std.specs.Prelude.{cond, ◌≡◌, ℕ}
+use Rattle.std.specs.Prelude.{if◌then◌else◌, ◌≡◌, ℕ}
 use Rattle.encoding.specs.Fields.{bits}
 use Rattle.bundle.specs.declared.template.Unit.{Unit as Kind}
 use Rattle.bundle.specs.declared.template.Unit.TheVariants as kind
@@ -15,35 +15,21 @@ use Rattle.instruction.specs.declared.record.Instruction.{Instruction}
 -- A-type instructions go to the M unit and to the I unit; L and X alone hold none
 abbrev pub OnMemory : ℕ → Operation → Type 0
 OnMemory slot (Operation.Alu i) = alu.Holds slot i
-OnMemory slot (Operation.Integer i) = ⊥
 OnMemory slot (Operation.Memory i) = memory.Holds slot i
-OnMemory slot (Operation.Branch i) = ⊥
-OnMemory slot (Operation.Floating i) = ⊥
-OnMemory slot (Operation.Extended i) = ⊥
+OnMemory slot _ = ⊥
 
 abbrev pub OnInteger : ℕ → Operation → Type 0
 OnInteger slot (Operation.Alu i) = alu.Holds slot i
 OnInteger slot (Operation.Integer i) = integer.Holds slot i
-OnInteger slot (Operation.Memory i) = ⊥
-OnInteger slot (Operation.Branch i) = ⊥
-OnInteger slot (Operation.Floating i) = ⊥
-OnInteger slot (Operation.Extended i) = ⊥
+OnInteger slot _ = ⊥
 
 abbrev pub OnBranch : ℕ → Operation → Type 0
-OnBranch slot (Operation.Alu i) = ⊥
-OnBranch slot (Operation.Integer i) = ⊥
-OnBranch slot (Operation.Memory i) = ⊥
 OnBranch slot (Operation.Branch i) = branch.Holds slot i
-OnBranch slot (Operation.Floating i) = ⊥
-OnBranch slot (Operation.Extended i) = ⊥
+OnBranch slot _ = ⊥
 
 abbrev pub OnFloating : ℕ → Operation → Type 0
-OnFloating slot (Operation.Alu i) = ⊥
-OnFloating slot (Operation.Integer i) = ⊥
-OnFloating slot (Operation.Memory i) = ⊥
-OnFloating slot (Operation.Branch i) = ⊥
 OnFloating slot (Operation.Floating i) = floating.Holds slot i
-OnFloating slot (Operation.Extended i) = ⊥
+OnFloating slot _ = ⊥
 
 abbrev pub On : Kind → ℕ → Operation → Type 0
 On kind.Memory slot i = OnMemory slot i
@@ -54,21 +40,13 @@ On kind.Long slot i = ⊥
 On kind.Extended slot i = ⊥
 
 abbrev pub OnLong : ℕ → ℕ → Operation → Type 0
-OnLong l x (Operation.Alu i) = ⊥
-OnLong l x (Operation.Integer i) = ⊥
-OnLong l x (Operation.Memory i) = ⊥
-OnLong l x (Operation.Branch i) = ⊥
-OnLong l x (Operation.Floating i) = ⊥
 OnLong l x (Operation.Extended i) = long.Holds l x i
+OnLong l x _ = ⊥
 
 -- the qualifying predicate: the low six bits of the slot, or 0 where the format has none
 abbrev pub predicate_of : ℕ → Operation → ℕ
-predicate_of slot (Operation.Alu i) = bits 0 6 slot
-predicate_of slot (Operation.Integer i) = bits 0 6 slot
-predicate_of slot (Operation.Memory i) = bits 0 6 slot
-predicate_of slot (Operation.Branch i) = cond (branch.predicated i) (bits 0 6 slot) 0
-predicate_of slot (Operation.Floating i) = bits 0 6 slot
-predicate_of slot (Operation.Extended i) = bits 0 6 slot
+predicate_of slot (Operation.Branch i) = if branch.predicated i then bits 0 6 slot else 0
+predicate_of slot _ = bits 0 6 slot
 
 -- the slot of a unit holds the instruction
 abbrev pub Held : Kind → ℕ → Instruction → Type 0

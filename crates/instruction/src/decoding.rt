@@ -4,7 +4,7 @@ ghost use Rattle.encoding.specs.Reading.{Reads};
 ghost use Rattle.instruction.specs.Floating.{Holds as FloatingHolds};
 ghost use Rattle.instruction.specs.Long.{Holds as LongHolds, Whole as LongWhole};
 ghost use Rattle.instruction.specs.Floating.{Whole as FloatingWhole};
-ghost use Rattle.instruction.specs.Units.{Held, HeldLong, On, OnBranch, OnFloating, OnInteger, OnLong, OnMemory, predicate_of};
+ghost use Rattle.instruction.specs.Units.{Held, HeldLong, On, predicate_of};
 
 use crate::record::{Extended, Floating, Instruction, Operation};
 use bundle::Unit;
@@ -40,68 +40,24 @@ fn extended(long: u64, slot: u64) -> Option<Extended>
     }
 }
 
-fn on_memory(slot: u64) -> Option<Operation>
-    ensures { Reads (OnMemory slot) result }
-{
-    match small(slot, 37, 4) {
-        8..=15 => match instruction_a::decode(slot) {
-            Some(i) => Some(Operation::Alu(i)),
-            None => None,
-        },
-        _ => match instruction_m::decode(slot) {
-            Some(i) => Some(Operation::Memory(i)),
-            None => None,
-        },
-    }
-}
-
-fn on_integer(slot: u64) -> Option<Operation>
-    ensures { Reads (OnInteger slot) result }
-{
-    match small(slot, 37, 4) {
-        8..=15 => match instruction_a::decode(slot) {
-            Some(i) => Some(Operation::Alu(i)),
-            None => None,
-        },
-        _ => match instruction_i::decode(slot) {
-            Some(i) => Some(Operation::Integer(i)),
-            None => None,
-        },
-    }
-}
-
-fn on_branch(slot: u64) -> Option<Operation>
-    ensures { Reads (OnBranch slot) result }
-{
-    match instruction_b::decode(slot) {
-        Some(i) => Some(Operation::Branch(i)),
-        None => None,
-    }
-}
-
-fn on_floating(slot: u64) -> Option<Operation>
-    ensures { Reads (OnFloating slot) result }
-{
-    match floating(slot) {
-        Some(i) => Some(Operation::Floating(i)),
-        None => None,
-    }
-}
-
+// The operation that the slot of this unit holds. The A-type instructions have the major opcodes from 8 on.
 fn operation(unit: Unit, slot: u64) -> Option<Operation>
     ensures { Reads (On unit slot) result }
 {
+    let alu = small(slot, 37, 4) >= 8;
     match unit {
-        Unit::Memory => on_memory(slot),
-        Unit::Integer => on_integer(slot),
-        Unit::Floating => on_floating(slot),
-        Unit::Branch => on_branch(slot),
-        Unit::Long => None,
-        Unit::Extended => None,
+        Unit::Memory | Unit::Integer if alu => {
+            Some(Operation::Alu(instruction_a::decode(slot)?))
+        }
+        Unit::Memory => Some(Operation::Memory(instruction_m::decode(slot)?)),
+        Unit::Integer => Some(Operation::Integer(instruction_i::decode(slot)?)),
+        Unit::Floating => Some(Operation::Floating(floating(slot)?)),
+        Unit::Branch => Some(Operation::Branch(instruction_b::decode(slot)?)),
+        Unit::Long | Unit::Extended => None,
     }
 }
 
-// The qualifying predicate of an operation that stands in this slot.
+// The qualifying predicate of an operation that stands in this slot: predicate 0, which is always true, where the format has none.
 fn predicate(slot: u64, operation: Operation) -> u8
     ensures { result ≡ predicate_of slot operation }
 {
@@ -115,29 +71,24 @@ fn predicate(slot: u64, operation: Operation) -> u8
 pub fn decode(unit: Unit, slot: u64) -> Option<Instruction>
     ensures { Reads (Held unit slot) result }
 {
-    match operation(unit, slot) {
-        Some(operation) => Some(Instruction {
-            qp: predicate(slot, operation),
-            operation,
-        }),
-        None => None,
-    }
+    let operation = operation(unit, slot)?;
+    Some(Instruction {
+        qp: predicate(slot, operation),
+        operation,
+    })
 }
 
-// The instruction that an L slot and the X slot after it hold together.
+// The instruction that an L slot and the X slot after it hold together: two arguments, as a bundle's split gives them.
 pub fn decode_long(long: u64, slot: u64) -> Option<Instruction>
     ensures { Reads (HeldLong long slot) result }
 {
-    match extended(long, slot) {
-        Some(i) => Some(Instruction {
-            qp: small(slot, 0, 6),
-            operation: Operation::Extended(i),
-        }),
-        None => None,
-    }
+    Some(Instruction {
+        qp: small(slot, 0, 6),
+        operation: Operation::Extended(extended(long, slot)?),
+    })
 }
 
-// Each layout is of 41 bits, or of two times 41.
+// Each layout of this crate is of 41 bits, or of two times 41.
 pub fn layouts_are_whole()
     ensures floating { FloatingWhole }
     ensures long { LongWhole }

@@ -1,9 +1,13 @@
 // From a slot to the record.
+//
+// The functions that come first say what the codes of a format stand for. A code belongs to its format and not to the type that it names,
+// so they are no conversions of the types. Where each value of the field has a meaning, they read it themselves and return no option.
+// Operands are read where they are used, by first bit and width, as the formats in specs/ have them.
 ghost use Rattle.std.specs.Prelude.{◌≡◌, ◌+◌, ◌-◌, ◌≤◌};
 ghost use Rattle.encoding.specs.Fields.{bits};
 ghost use Rattle.encoding.specs.Reading.{Found, Reads};
 ghost use Rattle.integer.specs.Places.{scale_of};
-ghost use Rattle.instruction_a.specs.Formats.{Holds, Whole, compare_c, compare_major, compare_ta, immediate_x2b, immediate_x4, parallel_major, register_x2b, register_x4, size_x, zero_c, zero_ta};
+ghost use Rattle.instruction_a.specs.Formats.{Holds, Whole, compare_c, compare_major, compare_ta, immediate_x2b, immediate_x4, parallel_major, register_x2b, register_x4, relation_major, size_x, zero_c, zero_ta};
 
 use crate::record::{
     Alu, Compare, CompareSize, ImmediateOperation, RegisterOperation, Relation, ZeroRelation,
@@ -41,58 +45,14 @@ fn immediate_operation(x4: u8, x2b: u8) -> Option<ImmediateOperation>
     }
 }
 
-fn scale(ct2: u8) -> Option<Scale>
-    ensures { Found (λ s. scale_of s - 1 ≡ ct2) result }
+fn scale(slot: u64) -> Scale
+    ensures { bits 27 2 slot ≡ scale_of result - 1 }
 {
-    match ct2 {
-        0 => Some(Scale::One),
-        1 => Some(Scale::Two),
-        2 => Some(Scale::Three),
-        3 => Some(Scale::Four),
-        _ => None,
-    }
-}
-
-fn compare(major: u8, ta: u8, c: u8) -> Option<Compare>
-    ensures { Found (λ t. (compare_major t ≡ major) × (compare_ta t ≡ ta) × (compare_c t ≡ c)) result }
-{
-    match (major, ta, c) {
-        (12, 0, 0) => Some(Compare::Normal(Relation::Lt)),
-        (13, 0, 0) => Some(Compare::Normal(Relation::Ltu)),
-        (14, 0, 0) => Some(Compare::Normal(Relation::Eq)),
-        (12, 0, 1) => Some(Compare::Unc(Relation::Lt)),
-        (13, 0, 1) => Some(Compare::Unc(Relation::Ltu)),
-        (14, 0, 1) => Some(Compare::Unc(Relation::Eq)),
-        (12, 1, 0) => Some(Compare::Eq(Parallel::And)),
-        (13, 1, 0) => Some(Compare::Eq(Parallel::Or)),
-        (14, 1, 0) => Some(Compare::Eq(Parallel::OrAndcm)),
-        (12, 1, 1) => Some(Compare::Ne(Parallel::And)),
-        (13, 1, 1) => Some(Compare::Ne(Parallel::Or)),
-        (14, 1, 1) => Some(Compare::Ne(Parallel::OrAndcm)),
-        _ => None,
-    }
-}
-
-fn zero_relation(ta: u8, c: u8) -> Option<ZeroRelation>
-    ensures { Found (λ z. (zero_ta z ≡ ta) × (zero_c z ≡ c)) result }
-{
-    match (ta, c) {
-        (0, 0) => Some(ZeroRelation::Gt),
-        (0, 1) => Some(ZeroRelation::Le),
-        (1, 0) => Some(ZeroRelation::Ge),
-        (1, 1) => Some(ZeroRelation::Lt),
-        _ => None,
-    }
-}
-
-fn parallel(major: u8) -> Option<Parallel>
-    ensures { Found (λ p. parallel_major p ≡ major) result }
-{
-    match major {
-        12 => Some(Parallel::And),
-        13 => Some(Parallel::Or),
-        14 => Some(Parallel::OrAndcm),
-        _ => None,
+    match small(slot, 27, 2) {
+        0 => Scale::One,
+        1 => Scale::Two,
+        2 => Scale::Three,
+        _ => Scale::Four,
     }
 }
 
@@ -109,108 +69,142 @@ fn registers(slot: u64) -> Option<Alu>
     let r2 = small(slot, 13, 7);
     let r3 = small(slot, 20, 7);
     match x4 {
-        0..=3 => {
-            let operation = register_operation(x4, x2b)?;
-            Some(Alu::Register {
-                operation,
-                r1,
-                r2,
-                r3,
-            })
-        }
-        4 => {
-            let scale = scale(x2b)?;
-            Some(Alu::Shladd { scale, r1, r2, r3 })
-        }
-        6 => {
-            let scale = scale(x2b)?;
-            Some(Alu::Shladdp4 { scale, r1, r2, r3 })
-        }
-        _ => {
-            let operation = immediate_operation(x4, x2b)?;
-            Some(Alu::Immediate {
-                operation,
-                r1,
-                imm: imm8(slot),
-                r3,
-            })
-        }
+        0..=3 => Some(Alu::Register {
+            operation: register_operation(x4, x2b)?,
+            r1,
+            r2,
+            r3,
+        }),
+        4 => Some(Alu::Shladd {
+            scale: scale(slot),
+            r1,
+            r2,
+            r3,
+        }),
+        6 => Some(Alu::Shladdp4 {
+            scale: scale(slot),
+            r1,
+            r2,
+            r3,
+        }),
+        _ => Some(Alu::Immediate {
+            operation: immediate_operation(x4, x2b)?,
+            r1,
+            imm: imm8(slot),
+            r3,
+        }),
     }
 }
 
-// Compares of a register with an immediate.
-fn compare_immediate(slot: u64, major: u8, size: CompareSize) -> Option<Alu>
-    requires major { bits 37 4 slot ≡ major }
-    requires among { (12 ≤ major) × (major ≤ 14) }
-    requires x2 { bits 34 2 slot ≡ 2 + size_x size }
-    ensures { Reads (Holds slot) result }
-{
-    let p1 = small(slot, 6, 6);
-    let p2 = small(slot, 27, 6);
-    let r3 = small(slot, 20, 7);
-    let compare = compare(major, small(slot, 33, 1), small(slot, 12, 1))?;
-    Some(Alu::CompareImmediate {
-        size,
-        compare,
-        p1,
-        p2,
-        imm: imm8(slot),
-        r3,
-    })
+// A slot with the major opcode of a compare.
+#[derive(Clone, Copy)]
+struct CompareSlot {
+    slot: u64,
+    ghost low: { 12 ≤ bits 37 4 slot },
+    ghost high: { bits 37 4 slot ≤ 14 },
 }
 
-// Compares of two registers, and of register 0 with another.
-fn compare_registers(slot: u64, major: u8, size: CompareSize) -> Option<Alu>
-    requires major { bits 37 4 slot ≡ major }
-    requires among { (12 ≤ major) × (major ≤ 14) }
-    requires x2 { bits 34 2 slot ≡ size_x size }
-    ensures { Reads (Holds slot) result }
-{
-    let ta = small(slot, 33, 1);
-    let c = small(slot, 12, 1);
-    let p1 = small(slot, 6, 6);
-    let p2 = small(slot, 27, 6);
-    let r2 = small(slot, 13, 7);
-    let r3 = small(slot, 20, 7);
-    match small(slot, 36, 1) {
-        0 => {
-            let compare = compare(major, ta, c)?;
-            Some(Alu::Compare {
+impl CompareSlot {
+    // What the codes stand for; no conversions of the types, as above.
+    fn relation(self) -> Relation
+        ensures { bits 37 4 self.slot ≡ relation_major result }
+    {
+        match small(self.slot, 37, 4) {
+            12 => Relation::Lt,
+            13 => Relation::Ltu,
+            _ => Relation::Eq,
+        }
+    }
+
+    fn parallel(self) -> Parallel
+        ensures { bits 37 4 self.slot ≡ parallel_major result }
+    {
+        match small(self.slot, 37, 4) {
+            12 => Parallel::And,
+            13 => Parallel::Or,
+            _ => Parallel::OrAndcm,
+        }
+    }
+
+    fn compare(self) -> Compare
+        ensures major { bits 37 4 self.slot ≡ compare_major result }
+        ensures ta { bits 33 1 self.slot ≡ compare_ta result }
+        ensures c { bits 12 1 self.slot ≡ compare_c result }
+    {
+        match (small(self.slot, 33, 1), small(self.slot, 12, 1)) {
+            (0, 0) => Compare::Normal(self.relation()),
+            (0, _) => Compare::Unc(self.relation()),
+            (_, 0) => Compare::Eq(self.parallel()),
+            _ => Compare::Ne(self.parallel()),
+        }
+    }
+
+    fn zero_relation(self) -> ZeroRelation
+        ensures ta { bits 33 1 self.slot ≡ zero_ta result }
+        ensures c { bits 12 1 self.slot ≡ zero_c result }
+    {
+        match (small(self.slot, 33, 1), small(self.slot, 12, 1)) {
+            (0, 0) => ZeroRelation::Gt,
+            (0, _) => ZeroRelation::Le,
+            (_, 0) => ZeroRelation::Ge,
+            _ => ZeroRelation::Lt,
+        }
+    }
+
+    // A compare of a register with an immediate.
+    fn immediate(self, size: CompareSize) -> Alu
+        requires { bits 34 2 self.slot ≡ 2 + size_x size }
+        ensures { Reads (Holds self.slot) (Some result) }
+    {
+        Alu::CompareImmediate {
+            size,
+            compare: self.compare(),
+            p1: small(self.slot, 6, 6),
+            p2: small(self.slot, 27, 6),
+            imm: imm8(self.slot),
+            r3: small(self.slot, 20, 7),
+        }
+    }
+
+    // A compare of two registers, or of register 0 with another.
+    fn registers(self, size: CompareSize) -> Option<Alu>
+        requires { bits 34 2 self.slot ≡ size_x size }
+        ensures { Reads (Holds self.slot) result }
+    {
+        let p1 = small(self.slot, 6, 6);
+        let p2 = small(self.slot, 27, 6);
+        let r2 = small(self.slot, 13, 7);
+        let r3 = small(self.slot, 20, 7);
+        match small(self.slot, 36, 1) {
+            0 => Some(Alu::Compare {
                 size,
-                compare,
+                compare: self.compare(),
                 p1,
                 p2,
                 r2,
                 r3,
-            })
-        }
-        _ if r2 == 0 => {
-            let relation = zero_relation(ta, c)?;
-            let parallel = parallel(major)?;
-            Some(Alu::CompareZero {
+            }),
+            _ if r2 == 0 => Some(Alu::CompareZero {
                 size,
-                relation,
-                parallel,
+                relation: self.zero_relation(),
+                parallel: self.parallel(),
                 p1,
                 p2,
                 r3,
-            })
+            }),
+            _ => None,
         }
-        _ => None,
     }
-}
 
-// Major opcodes 12 to 14.
-fn compares(slot: u64, major: u8) -> Option<Alu>
-    requires major { bits 37 4 slot ≡ major }
-    requires among { (12 ≤ major) × (major ≤ 14) }
-    ensures { Reads (Holds slot) result }
-{
-    match small(slot, 34, 2) {
-        0 => compare_registers(slot, major, CompareSize::Eight),
-        1 => compare_registers(slot, major, CompareSize::Four),
-        2 => compare_immediate(slot, major, CompareSize::Eight),
-        _ => compare_immediate(slot, major, CompareSize::Four),
+    fn decode(self) -> Option<Alu>
+        ensures { Reads (Holds self.slot) result }
+    {
+        match small(self.slot, 34, 2) {
+            0 => self.registers(CompareSize::Eight),
+            1 => self.registers(CompareSize::Four),
+            2 => Some(self.immediate(CompareSize::Eight)),
+            _ => Some(self.immediate(CompareSize::Four)),
+        }
     }
 }
 
@@ -240,12 +234,12 @@ pub fn decode(slot: u64) -> Option<Alu>
             imm: imm22(slot),
             r3: small(slot, 20, 2),
         }),
-        12..=14 => compares(slot, major),
+        12..=14 => CompareSlot { slot }.decode(),
         _ => None,
     }
 }
 
-// Each layout is of 41 bits.
+// Each layout of this crate is of 41 bits.
 pub fn layouts_are_whole()
     ensures { Whole }
 {}

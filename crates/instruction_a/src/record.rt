@@ -3,7 +3,7 @@ use encoding::Parallel;
 use integer::Scale;
 
 // What is computed of two registers.
-#[derive(Clone, Copy)]
+#[derive(Clone, Copy, PartialEq, Eq, Debug)]
 pub enum RegisterOperation {
     Add,
     AddOne,
@@ -17,7 +17,7 @@ pub enum RegisterOperation {
 }
 
 // What is computed of an immediate and a register.
-#[derive(Clone, Copy)]
+#[derive(Clone, Copy, PartialEq, Eq, Debug)]
 pub enum ImmediateOperation {
     Sub,
     And,
@@ -27,14 +27,14 @@ pub enum ImmediateOperation {
 }
 
 // How much of its sources a compare reads: all eight bytes, or the low four.
-#[derive(Clone, Copy)]
+#[derive(Clone, Copy, PartialEq, Eq, Debug)]
 pub enum CompareSize {
     Eight,
     Four,
 }
 
 // The relations of the compare types none and unc.
-#[derive(Clone, Copy)]
+#[derive(Clone, Copy, PartialEq, Eq, Debug)]
 pub enum Relation {
     Lt,
     Ltu,
@@ -42,7 +42,7 @@ pub enum Relation {
 }
 
 // A compare type with its relation. A parallel type has only eq and ne, unless the first source is register 0.
-#[derive(Clone, Copy)]
+#[derive(Clone, Copy, PartialEq, Eq, Debug)]
 pub enum Compare {
     Normal(Relation),
     Unc(Relation),
@@ -51,7 +51,7 @@ pub enum Compare {
 }
 
 // The relations of register 0 to another register, for the parallel types.
-#[derive(Clone, Copy)]
+#[derive(Clone, Copy, PartialEq, Eq, Debug)]
 pub enum ZeroRelation {
     Gt,
     Le,
@@ -61,7 +61,7 @@ pub enum ZeroRelation {
 
 // An A-type instruction, but for its qualifying predicate. An immediate is the word that the operation takes, with its sign in all
 // bits above.
-#[derive(Clone, Copy)]
+#[derive(Clone, Copy, PartialEq, Eq, Debug)]
 pub enum Alu {
     Register {
         operation: RegisterOperation,

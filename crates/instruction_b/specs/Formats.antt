@@ -1,6 +1,6 @@
 -- The formats of the B unit's instructions: the fields of each above its low six bits, from bit 6 on, and those of the low six bits where
 -- they are no qualifying predicate.
-use Rattle.std.specs.Prelude.{Bool, true, false, cond, List, [], ◌∷◌, ◌≡◌, ℕ, ◌+◌, eqb}
+use Rattle.std.specs.Prelude.{Bool, true, false, if◌then◌else◌, List, [], ◌∷◌, ◌≡◌, ℕ, ◌+◌, ◌==◌}
 use Rattle.encoding.specs.Fields.{bits, flag, Field, Stand, span}
 use Rattle.encoding.specs.Fields.Field.{holds, ignored}
 use Rattle.encoding.specs.Immediates.{offset25, offset13, number21}
@@ -32,16 +32,16 @@ predicted_code Predicted.Dptk = 2
 predicted_code Predicted.Exit = 3
 
 unfoldable pub whether_of : ℕ → Whether
-whether_of code = cond (eqb code 0) Whether.Sptk (cond (eqb code 1) Whether.Spnt (cond (eqb code 2) Whether.Dptk Whether.Dpnt))
+whether_of code = if code == 0 then Whether.Sptk else (if code == 1 then Whether.Spnt else (if code == 2 then Whether.Dptk else Whether.Dpnt))
 
 unfoldable pub prefetch_of : ℕ → Prefetch
-prefetch_of code = cond (eqb code 0) Prefetch.Few Prefetch.Many
+prefetch_of code = if code == 0 then Prefetch.Few else Prefetch.Many
 
 unfoldable pub predicted_of : ℕ → Predicted
-predicted_of code = cond (eqb code 0) Predicted.Sptk (cond (eqb code 1) Predicted.Loop (cond (eqb code 2) Predicted.Dptk Predicted.Exit))
+predicted_of code = if code == 0 then Predicted.Sptk else (if code == 1 then Predicted.Loop else (if code == 2 then Predicted.Dptk else Predicted.Exit))
 
 unfoldable pub flag_of : ℕ → Bool
-flag_of code = eqb code 1
+flag_of code = code == 1
 
 unfoldable pub hints_of : ℕ → ℕ → ℕ → Hints
 hints_of whether prefetch clr = record { whether = whether_of whether; prefetch = prefetch_of prefetch; clr = flag_of clr }
@@ -148,4 +148,4 @@ Holds slot i = Proper i × Stand slot 0 (lowest i) × Stand slot 6 (layout i)
 
 -- the fields fill a slot of 41 bits, six of them below bit 6
 abbrev pub Whole : Type 0
-Whole = (i : Branch) → (span (lowest i) ≡ cond (predicated i) 0 6) × (6 + span (layout i) ≡ 41)
+Whole = (i : Branch) → (span (lowest i) ≡ (if predicated i then 0 else 6)) × (6 + span (layout i) ≡ 41)

@@ -1,7 +1,7 @@
 // The records of the B unit's instructions: branches, and what clears rename bases.
 
 // Whether the branch is likely taken, and whether by a static or a dynamic prediction.
-#[derive(Clone, Copy)]
+#[derive(Clone, Copy, PartialEq, Eq, Debug)]
 pub enum Whether {
     Sptk,
     Spnt,
@@ -10,14 +10,14 @@ pub enum Whether {
 }
 
 // How many lines are fetched ahead.
-#[derive(Clone, Copy)]
+#[derive(Clone, Copy, PartialEq, Eq, Debug)]
 pub enum Prefetch {
     Few,
     Many,
 }
 
 // The hints of a branch. `clr` frees the branch's place in a cache of predictions.
-#[derive(Clone, Copy)]
+#[derive(Clone, Copy, PartialEq, Eq, Debug)]
 pub struct Hints {
     pub whether: Whether,
     pub prefetch: Prefetch,
@@ -25,7 +25,7 @@ pub struct Hints {
 }
 
 // The branches with an offset and a qualifying predicate.
-#[derive(Clone, Copy)]
+#[derive(Clone, Copy, PartialEq, Eq, Debug)]
 pub enum Relative {
     Cond,
     Wexit,
@@ -33,7 +33,7 @@ pub enum Relative {
 }
 
 // The branches with an offset that count by LC.
-#[derive(Clone, Copy)]
+#[derive(Clone, Copy, PartialEq, Eq, Debug)]
 pub enum Counted {
     Cloop,
     Cexit,
@@ -41,14 +41,14 @@ pub enum Counted {
 }
 
 // The branches to a branch register.
-#[derive(Clone, Copy)]
+#[derive(Clone, Copy, PartialEq, Eq, Debug)]
 pub enum Indirect {
     Cond,
     Ret,
 }
 
 // What a prediction says of the branch that it names.
-#[derive(Clone, Copy)]
+#[derive(Clone, Copy, PartialEq, Eq, Debug)]
 pub enum Predicted {
     Sptk,
     Loop,
@@ -57,7 +57,7 @@ pub enum Predicted {
 }
 
 // The hints of a prediction. `tag` is the offset in bytes to the branch.
-#[derive(Clone, Copy)]
+#[derive(Clone, Copy, PartialEq, Eq, Debug)]
 pub struct Prediction {
     pub predicted: Predicted,
     pub imp: bool,
@@ -65,7 +65,7 @@ pub struct Prediction {
 }
 
 // An instruction of the B unit, but for its qualifying predicate; offsets are in bytes.
-#[derive(Clone, Copy)]
+#[derive(Clone, Copy, PartialEq, Eq, Debug)]
 pub enum Branch {
     Relative {
         branch: Relative,

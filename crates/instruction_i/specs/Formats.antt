@@ -6,6 +6,7 @@ use Rattle.encoding.specs.Immediates.{signed8, signed17, signed44, parted25, num
 use Rattle.encoding.specs.Places.{place, place_from_top, extent}
 use Rattle.encoding.specs.declared.record.Parallel.{Parallel}
 use Rattle.integer.specs.declared.extend.Part.{Part}
+use Rattle.integer.specs.declared.place.BitField.{BitField}
 use Rattle.instruction_i.specs.declared.record.Test.{Test}
 use Rattle.instruction_i.specs.declared.record.Application.{Application}
 use Rattle.instruction_i.specs.declared.record.Integer.{Integer}
@@ -60,18 +61,18 @@ layout (Integer.ShrU r1 r3 r2) =
     holds 7 r1 ∷ holds 7 r2 ∷ holds 7 r3 ∷ ignored 1 ∷ holds 2 0 ∷ holds 2 0 ∷ holds 1 0 ∷ holds 1 1 ∷ holds 2 0 ∷ holds 1 1 ∷ holds 4 7 ∷ []
 layout (Integer.Shrp r1 r2 r3 count) =
     holds 7 r1 ∷ holds 7 r2 ∷ holds 7 r3 ∷ holds 6 count.bit ∷ holds 1 0 ∷ holds 2 3 ∷ ignored 1 ∷ holds 4 5 ∷ []
-layout (Integer.Extr r1 r3 position length) =
-    holds 7 r1 ∷ holds 1 1 ∷ holds 6 position.bit ∷ holds 7 r3 ∷ holds 6 (length.bits - 1) ∷ holds 1 0 ∷ holds 2 1 ∷ ignored 1 ∷ holds 4 5 ∷ []
-layout (Integer.ExtrU r1 r3 position length) =
-    holds 7 r1 ∷ holds 1 0 ∷ holds 6 position.bit ∷ holds 7 r3 ∷ holds 6 (length.bits - 1) ∷ holds 1 0 ∷ holds 2 1 ∷ ignored 1 ∷ holds 4 5 ∷ []
-layout (Integer.Dep r1 r2 r3 position length) =
-    holds 7 r1 ∷ holds 7 r2 ∷ holds 7 r3 ∷ holds 4 (length.bits - 1) ∷ holds 6 (63 - position.bit) ∷ holds 4 4 ∷ []
-layout (Integer.DepBits r1 ones r3 position length) =
-    holds 7 r1 ∷ ignored 1 ∷ holds 6 (63 - position.bit) ∷ holds 7 r3 ∷ holds 6 (length.bits - 1) ∷ holds 1 1 ∷ holds 2 3 ∷ holds 1 (flag ones) ∷ holds 4 5 ∷ []
-layout (Integer.DepZ r1 r2 position length) =
-    holds 7 r1 ∷ holds 7 r2 ∷ holds 6 (63 - position.bit) ∷ holds 1 0 ∷ holds 6 (length.bits - 1) ∷ holds 1 1 ∷ holds 2 1 ∷ ignored 1 ∷ holds 4 5 ∷ []
-layout (Integer.DepZImmediate r1 imm position length) =
-    holds 7 r1 ∷ holds 7 (bits 0 7 imm) ∷ holds 6 (63 - position.bit) ∷ holds 1 1 ∷ holds 6 (length.bits - 1) ∷ holds 1 1 ∷ holds 2 1 ∷ holds 1 (bits 7 1 imm) ∷ holds 4 5 ∷ []
+layout (Integer.Extr r1 r3 field) =
+    holds 7 r1 ∷ holds 1 1 ∷ holds 6 field.position.bit ∷ holds 7 r3 ∷ holds 6 (field.length.bits - 1) ∷ holds 1 0 ∷ holds 2 1 ∷ ignored 1 ∷ holds 4 5 ∷ []
+layout (Integer.ExtrU r1 r3 field) =
+    holds 7 r1 ∷ holds 1 0 ∷ holds 6 field.position.bit ∷ holds 7 r3 ∷ holds 6 (field.length.bits - 1) ∷ holds 1 0 ∷ holds 2 1 ∷ ignored 1 ∷ holds 4 5 ∷ []
+layout (Integer.Dep r1 r2 r3 field) =
+    holds 7 r1 ∷ holds 7 r2 ∷ holds 7 r3 ∷ holds 4 (field.length.bits - 1) ∷ holds 6 (63 - field.position.bit) ∷ holds 4 4 ∷ []
+layout (Integer.DepBits r1 ones r3 field) =
+    holds 7 r1 ∷ ignored 1 ∷ holds 6 (63 - field.position.bit) ∷ holds 7 r3 ∷ holds 6 (field.length.bits - 1) ∷ holds 1 1 ∷ holds 2 3 ∷ holds 1 (flag ones) ∷ holds 4 5 ∷ []
+layout (Integer.DepZ r1 r2 field) =
+    holds 7 r1 ∷ holds 7 r2 ∷ holds 6 (63 - field.position.bit) ∷ holds 1 0 ∷ holds 6 (field.length.bits - 1) ∷ holds 1 1 ∷ holds 2 1 ∷ ignored 1 ∷ holds 4 5 ∷ []
+layout (Integer.DepZImmediate r1 imm field) =
+    holds 7 r1 ∷ holds 7 (bits 0 7 imm) ∷ holds 6 (63 - field.position.bit) ∷ holds 1 1 ∷ holds 6 (field.length.bits - 1) ∷ holds 1 1 ∷ holds 2 1 ∷ holds 1 (bits 7 1 imm) ∷ holds 4 5 ∷ []
 layout (Integer.Tbit test p1 p2 r3 position) =
     holds 6 p1 ∷ holds 1 (test_c test) ∷ holds 1 0 ∷ holds 6 position.bit ∷ holds 7 r3 ∷ holds 6 p2 ∷ holds 1 (test_ta test) ∷ holds 2 0 ∷ holds 1 (test_tb test) ∷ holds 4 5 ∷ []
 layout (Integer.Tnat test p1 p2 r3) =
@@ -107,19 +108,25 @@ layout (Integer.Nop imm) =
 layout (Integer.Break imm) =
     holds 20 (bits 0 20 imm) ∷ ignored 1 ∷ holds 6 0 ∷ holds 3 0 ∷ holds 1 (bits 20 1 imm) ∷ holds 4 0 ∷ []
 
--- an immediate is made up of its fields, and a signed one has its sign in all bits above them; a position or a length is the one that its field
--- gives (every position and every length is: it is said for the proofs)
+-- a bit field is the one that its parts give (every one is: it is said for the proofs), its position counted up or down from bit 63
+abbrev pub FieldProper : BitField → Type 0
+FieldProper f = (f.position ≡ place f.position.bit) × (f.length ≡ extent (f.length.bits - 1))
+
+abbrev pub FieldProperFromTop : BitField → Type 0
+FieldProperFromTop f = (f.position ≡ place_from_top (63 - f.position.bit)) × (f.length ≡ extent (f.length.bits - 1))
+
+-- an immediate is made up of its fields, and a signed one has its sign in all bits above them; a position is the one that its field gives
 abbrev pub Proper : Integer → Type 0
 Proper (Integer.Shl r1 r2 r3) = Unit {0}
 Proper (Integer.Shr r1 r3 r2) = Unit {0}
 Proper (Integer.ShrU r1 r3 r2) = Unit {0}
 Proper (Integer.Shrp r1 r2 r3 count) = count ≡ place count.bit
-Proper (Integer.Extr r1 r3 position length) = (position ≡ place position.bit) × (length ≡ extent (length.bits - 1))
-Proper (Integer.ExtrU r1 r3 position length) = (position ≡ place position.bit) × (length ≡ extent (length.bits - 1))
-Proper (Integer.Dep r1 r2 r3 position length) = (position ≡ place_from_top (63 - position.bit)) × (length ≡ extent (length.bits - 1))
-Proper (Integer.DepBits r1 ones r3 position length) = (position ≡ place_from_top (63 - position.bit)) × (length ≡ extent (length.bits - 1))
-Proper (Integer.DepZ r1 r2 position length) = (position ≡ place_from_top (63 - position.bit)) × (length ≡ extent (length.bits - 1))
-Proper (Integer.DepZImmediate r1 imm position length) = (imm ≡ signed8 (bits 0 7 imm) (bits 7 1 imm)) × (position ≡ place_from_top (63 - position.bit)) × (length ≡ extent (length.bits - 1))
+Proper (Integer.Extr r1 r3 field) = FieldProper field
+Proper (Integer.ExtrU r1 r3 field) = FieldProper field
+Proper (Integer.Dep r1 r2 r3 field) = FieldProperFromTop field
+Proper (Integer.DepBits r1 ones r3 field) = FieldProperFromTop field
+Proper (Integer.DepZ r1 r2 field) = FieldProperFromTop field
+Proper (Integer.DepZImmediate r1 imm field) = (imm ≡ signed8 (bits 0 7 imm) (bits 7 1 imm)) × FieldProperFromTop field
 Proper (Integer.Tbit test p1 p2 r3 position) = position ≡ place position.bit
 Proper (Integer.Tnat test p1 p2 r3) = Unit {0}
 Proper (Integer.Popcnt r1 r3) = Unit {0}

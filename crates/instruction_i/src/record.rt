@@ -1,9 +1,9 @@
 // The records of the I unit's own instructions: shifts, bit fields, tests of a bit, and moves.
 use encoding::Parallel;
-use integer::{Length, Part, Position};
+use integer::{BitField, Part, Position};
 
 // A test of a bit, by its type. The types none and unc test for zero.
-#[derive(Clone, Copy)]
+#[derive(Clone, Copy, PartialEq, Eq, Debug)]
 pub enum Test {
     Normal,
     Unc,
@@ -11,8 +11,8 @@ pub enum Test {
     Nonzero(Parallel),
 }
 
-// The application registers that the I unit moves.
-#[derive(Clone, Copy)]
+// The application registers that the I unit moves: a type of its own, since the M unit moves others and neither moves the other's.
+#[derive(Clone, Copy, PartialEq, Eq, Debug)]
 pub enum Application {
     Pfs,
     Lc,
@@ -21,7 +21,7 @@ pub enum Application {
 
 // An instruction of the I unit, but for its qualifying predicate. An immediate is the word that the operation takes; the offset of a
 // branch is in bytes.
-#[derive(Clone, Copy)]
+#[derive(Clone, Copy, PartialEq, Eq, Debug)]
 pub enum Integer {
     Shl {
         r1: u8,
@@ -47,41 +47,35 @@ pub enum Integer {
     Extr {
         r1: u8,
         r3: u8,
-        position: Position,
-        length: Length,
+        field: BitField,
     },
     ExtrU {
         r1: u8,
         r3: u8,
-        position: Position,
-        length: Length,
+        field: BitField,
     },
     Dep {
         r1: u8,
         r2: u8,
         r3: u8,
-        position: Position,
-        length: Length,
+        field: BitField,
     },
     // The source is all ones, or zero.
     DepBits {
         r1: u8,
         ones: bool,
         r3: u8,
-        position: Position,
-        length: Length,
+        field: BitField,
     },
     DepZ {
         r1: u8,
         r2: u8,
-        position: Position,
-        length: Length,
+        field: BitField,
     },
     DepZImmediate {
         r1: u8,
         imm: u64,
-        position: Position,
-        length: Length,
+        field: BitField,
     },
     Tbit {
         test: Test,

@@ -1,5 +1,5 @@
 -- The formats of the M unit's own instructions: the fields of each above its qualifying predicate, from bit 6 on.
-use Rattle.std.specs.Prelude.{◌≡◌, ℕ, ◌+◌, cond, List, [], ◌∷◌, Some, None, ◌==◌}
+use Rattle.std.specs.Prelude.{◌≡◌, ℕ, ◌+◌, if◌then◌else◌, List, [], ◌∷◌, Option, Some, None, ◌==◌}
 use Rattle.encoding.specs.Fields.{bits, flag, Field, Stand, span}
 use Rattle.encoding.specs.Fields.Field.{holds, ignored}
 use Rattle.encoding.specs.Immediates.{signed8, signed9, offset25, parted25, number21}
@@ -36,7 +36,7 @@ hint_code Hint.Two = 2
 hint_code Hint.Nta = 3
 
 unfoldable pub hint_of : ℕ → Hint
-hint_of code = cond (code == 0) Hint.None (cond (code == 1) Hint.Nt1 (cond (code == 2) Hint.Two Hint.Nta))
+hint_of code = if code == 0 then Hint.None else (if code == 1 then Hint.Nt1 else (if code == 2 then Hint.Two else Hint.Nta))
 
 -- x3 of chk.a
 abbrev pub clear_x3 : Clear → ℕ
@@ -49,17 +49,17 @@ application_number Application.Ccv = 32
 application_number Application.Unat = 36
 
 abbrev pub layout : Memory → List Field
-layout (Memory.Load type size hint r1 r3 BaseUpdate.None) =
+layout (Memory.Load type size hint r1 r3 None) =
     holds 7 r1 ∷ ignored 7 ∷ holds 7 r3 ∷ holds 1 0 ∷ holds 2 (hint_code hint) ∷ holds 2 (size_x size) ∷ holds 4 (type_x type) ∷ holds 1 0 ∷ holds 4 4 ∷ []
-layout (Memory.Load type size hint r1 r3 (BaseUpdate.Register r2)) =
+layout (Memory.Load type size hint r1 r3 (Some (BaseUpdate.Register r2))) =
     holds 7 r1 ∷ holds 7 r2 ∷ holds 7 r3 ∷ holds 1 0 ∷ holds 2 (hint_code hint) ∷ holds 2 (size_x size) ∷ holds 4 (type_x type) ∷ holds 1 1 ∷ holds 4 4 ∷ []
-layout (Memory.Load type size hint r1 r3 (BaseUpdate.Immediate imm)) =
+layout (Memory.Load type size hint r1 r3 (Some (BaseUpdate.Immediate imm))) =
     holds 7 r1 ∷ holds 7 (bits 0 7 imm) ∷ holds 7 r3 ∷ holds 1 (bits 7 1 imm) ∷ holds 2 (hint_code hint) ∷ holds 2 (size_x size) ∷ holds 4 (type_x type) ∷ holds 1 (bits 8 1 imm) ∷ holds 4 5 ∷ []
-layout (Memory.Fill hint r1 r3 BaseUpdate.None) =
+layout (Memory.Fill hint r1 r3 None) =
     holds 7 r1 ∷ ignored 7 ∷ holds 7 r3 ∷ holds 1 0 ∷ holds 2 (hint_code hint) ∷ holds 2 3 ∷ holds 4 6 ∷ holds 1 0 ∷ holds 4 4 ∷ []
-layout (Memory.Fill hint r1 r3 (BaseUpdate.Register r2)) =
+layout (Memory.Fill hint r1 r3 (Some (BaseUpdate.Register r2))) =
     holds 7 r1 ∷ holds 7 r2 ∷ holds 7 r3 ∷ holds 1 0 ∷ holds 2 (hint_code hint) ∷ holds 2 3 ∷ holds 4 6 ∷ holds 1 1 ∷ holds 4 4 ∷ []
-layout (Memory.Fill hint r1 r3 (BaseUpdate.Immediate imm)) =
+layout (Memory.Fill hint r1 r3 (Some (BaseUpdate.Immediate imm))) =
     holds 7 r1 ∷ holds 7 (bits 0 7 imm) ∷ holds 7 r3 ∷ holds 1 (bits 7 1 imm) ∷ holds 2 (hint_code hint) ∷ holds 2 3 ∷ holds 4 6 ∷ holds 1 (bits 8 1 imm) ∷ holds 4 5 ∷ []
 layout (Memory.Store release size hint r3 r2 None) =
     ignored 7 ∷ holds 7 r2 ∷ holds 7 r3 ∷ holds 1 0 ∷ holds 2 (hint_code hint) ∷ holds 2 (size_x size) ∷ holds 4 (12 + flag release) ∷ holds 1 0 ∷ holds 4 4 ∷ []
@@ -95,12 +95,12 @@ layout (Memory.Break imm) =
 -- an immediate is made up of its fields, and a signed one has its sign in all bits above them; a hint is the one of its code (every hint is: it
 -- is said for the proofs)
 abbrev pub Proper : Memory → Type 0
-Proper (Memory.Load type size hint r1 r3 BaseUpdate.None) = hint ≡ hint_of (hint_code hint)
-Proper (Memory.Load type size hint r1 r3 (BaseUpdate.Register r2)) = hint ≡ hint_of (hint_code hint)
-Proper (Memory.Load type size hint r1 r3 (BaseUpdate.Immediate imm)) = (hint ≡ hint_of (hint_code hint)) × (imm ≡ signed9 (bits 0 7 imm) (bits 7 1 imm) (bits 8 1 imm))
-Proper (Memory.Fill hint r1 r3 BaseUpdate.None) = hint ≡ hint_of (hint_code hint)
-Proper (Memory.Fill hint r1 r3 (BaseUpdate.Register r2)) = hint ≡ hint_of (hint_code hint)
-Proper (Memory.Fill hint r1 r3 (BaseUpdate.Immediate imm)) = (hint ≡ hint_of (hint_code hint)) × (imm ≡ signed9 (bits 0 7 imm) (bits 7 1 imm) (bits 8 1 imm))
+Proper (Memory.Load type size hint r1 r3 None) = hint ≡ hint_of (hint_code hint)
+Proper (Memory.Load type size hint r1 r3 (Some (BaseUpdate.Register r2))) = hint ≡ hint_of (hint_code hint)
+Proper (Memory.Load type size hint r1 r3 (Some (BaseUpdate.Immediate imm))) = (hint ≡ hint_of (hint_code hint)) × (imm ≡ signed9 (bits 0 7 imm) (bits 7 1 imm) (bits 8 1 imm))
+Proper (Memory.Fill hint r1 r3 None) = hint ≡ hint_of (hint_code hint)
+Proper (Memory.Fill hint r1 r3 (Some (BaseUpdate.Register r2))) = hint ≡ hint_of (hint_code hint)
+Proper (Memory.Fill hint r1 r3 (Some (BaseUpdate.Immediate imm))) = (hint ≡ hint_of (hint_code hint)) × (imm ≡ signed9 (bits 0 7 imm) (bits 7 1 imm) (bits 8 1 imm))
 Proper (Memory.Store release size hint r3 r2 None) = hint ≡ hint_of (hint_code hint)
 Proper (Memory.Store release size hint r3 r2 (Some imm)) = (hint ≡ hint_of (hint_code hint)) × (imm ≡ signed9 (bits 0 7 imm) (bits 7 1 imm) (bits 8 1 imm))
 Proper (Memory.Spill hint r3 r2 None) = hint ≡ hint_of (hint_code hint)
@@ -116,6 +116,22 @@ Proper (Memory.ToApplicationImmediate register imm) = imm ≡ signed8 (bits 0 7 
 Proper (Memory.FromApplication r1 register) = Unit {0}
 Proper (Memory.Nop imm) = imm ≡ number21 (bits 0 20 imm) (bits 20 1 imm)
 Proper (Memory.Break imm) = imm ≡ number21 (bits 0 20 imm) (bits 20 1 imm)
+
+-- the fields of a load that say how its base is updated
+abbrev pub UpdateStands : ℕ → Option BaseUpdate → Type 0
+UpdateStands slot None =
+    Stand slot 27 (holds 1 0 ∷ ignored 8 ∷ holds 1 0 ∷ holds 4 4 ∷ [])
+UpdateStands slot (Some (BaseUpdate.Register r2)) =
+    Stand slot 13 (holds 7 r2 ∷ ignored 7 ∷ holds 1 0 ∷ ignored 8 ∷ holds 1 1 ∷ holds 4 4 ∷ [])
+UpdateStands slot (Some (BaseUpdate.Immediate imm)) =
+    (imm ≡ signed9 (bits 0 7 imm) (bits 7 1 imm) (bits 8 1 imm)) × Stand slot 13 (holds 7 (bits 0 7 imm) ∷ ignored 7 ∷ holds 1 (bits 7 1 imm) ∷ ignored 8 ∷ holds 1 (bits 8 1 imm) ∷ holds 4 5 ∷ [])
+
+-- the same of a store
+abbrev pub IncrementStands : ℕ → Option ℕ → Type 0
+IncrementStands slot None =
+    Stand slot 27 (holds 1 0 ∷ ignored 8 ∷ holds 1 0 ∷ holds 4 4 ∷ [])
+IncrementStands slot (Some imm) =
+    (imm ≡ signed9 (bits 0 7 imm) (bits 7 1 imm) (bits 8 1 imm)) × Stand slot 6 (holds 7 (bits 0 7 imm) ∷ ignored 14 ∷ holds 1 (bits 7 1 imm) ∷ ignored 8 ∷ holds 1 (bits 8 1 imm) ∷ holds 4 5 ∷ [])
 
 -- the slot holds the instruction
 abbrev pub Holds : ℕ → Memory → Type 0

@@ -1,22 +1,25 @@
 // From a slot to the record.
+//
+// The functions that come first say what the codes of a format stand for. A code belongs to its format and not to the type that it names,
+// so they are no conversions of the types. Where each value of the field has a meaning, they read it themselves and return no option.
+// Operands are read where they are used, by first bit and width, as the formats in specs/ have them.
 ghost use Rattle.std.specs.Prelude.{◌≡◌, ◌≤◌};
 ghost use Rattle.encoding.specs.Fields.{bits};
 ghost use Rattle.encoding.specs.Reading.{Found, Reads};
-ghost use Rattle.instruction_m.specs.Formats.{Holds, Whole, application_number, hint_code, hint_of, size_x, type_x};
+ghost use Rattle.instruction_m.specs.Formats.{Holds, IncrementStands, UpdateStands, Whole, application_number, clear_x3, hint_code, hint_of, size_x, type_x};
 
 use crate::record::{Application, BaseUpdate, Clear, Hint, LoadType, Memory};
 use encoding::{imm8, imm9, imm21, offset, parted_offset, small};
 use memory::Size;
 
-fn size(x: u8) -> Option<Size>
-    ensures { Found (λ s. size_x s ≡ x) result }
+fn size(slot: u64) -> Size
+    ensures { bits 30 2 slot ≡ size_x result }
 {
-    match x {
-        0 => Some(Size::One),
-        1 => Some(Size::Two),
-        2 => Some(Size::Four),
-        3 => Some(Size::Eight),
-        _ => None,
+    match small(slot, 30, 2) {
+        0 => Size::One,
+        1 => Size::Two,
+        2 => Size::Four,
+        _ => Size::Eight,
     }
 }
 
@@ -37,6 +40,7 @@ fn load_type(x: u8) -> Option<LoadType>
     }
 }
 
+#[tactic(auto, unfolding(crate::specs::Formats::hint_of))]
 fn hint(slot: u64) -> Hint
     ensures value { result ≡ hint_of (bits 28 2 slot) }
     ensures field { bits 28 2 slot ≡ hint_code result }
@@ -49,6 +53,17 @@ fn hint(slot: u64) -> Hint
     }
 }
 
+fn clear(x3: u8) -> Option<Clear>
+    ensures { Found (λ c. clear_x3 c ≡ x3) result }
+{
+    match x3 {
+        4 => Some(Clear::Nc),
+        5 => Some(Clear::Clr),
+        _ => None,
+    }
+}
+
+// No `TryFrom`: that no other register has the number is part of what a decoder promises, and `Found` says it.
 fn application(number: u8) -> Option<Application>
     ensures { Found (λ a. application_number a ≡ number) result }
 {
@@ -59,128 +74,27 @@ fn application(number: u8) -> Option<Application>
     }
 }
 
-// Loads of major opcode 4: without an update of the base, or by a register.
-fn loads(slot: u64) -> Option<Memory>
-    requires major { bits 37 4 slot ≡ 4 }
+// Loads, with this update of the base.
+fn loads(slot: u64, update: Option<BaseUpdate>) -> Option<Memory>
     requires load { bits 32 4 slot ≤ 11 }
-    requires x { bits 27 1 slot ≡ 0 }
+    requires update { UpdateStands slot update }
     ensures { Reads (Holds slot) result }
 {
     let r1 = small(slot, 6, 7);
-    let r2 = small(slot, 13, 7);
-    let r3 = small(slot, 20, 7);
-    let hint = hint(slot);
-    let size_code = small(slot, 30, 2);
-    let type_code = small(slot, 32, 4);
-    match (type_code, size_code, small(slot, 36, 1)) {
-        (6, 3, 0) => Some(Memory::Fill {
-            hint,
-            r1,
-            r3,
-            update: BaseUpdate::None,
-        }),
-        (6, 3, _) => Some(Memory::Fill {
-            hint,
-            r1,
-            r3,
-            update: BaseUpdate::Register(r2),
-        }),
-        (_, _, 0) => {
-            let load_type = load_type(type_code)?;
-            let size = size(size_code)?;
-            Some(Memory::Load {
-                load_type,
-                size,
-                hint,
-                r1,
-                r3,
-                update: BaseUpdate::None,
-            })
-        }
-        _ => {
-            let load_type = load_type(type_code)?;
-            let size = size(size_code)?;
-            Some(Memory::Load {
-                load_type,
-                size,
-                hint,
-                r1,
-                r3,
-                update: BaseUpdate::Register(r2),
-            })
-        }
-    }
-}
-
-// Stores of major opcode 4: without an update of the base.
-fn stores(slot: u64) -> Option<Memory>
-    requires major { bits 37 4 slot ≡ 4 }
-    requires store { 12 ≤ bits 32 4 slot }
-    requires m { bits 36 1 slot ≡ 0 }
-    requires x { bits 27 1 slot ≡ 0 }
-    ensures { Reads (Holds slot) result }
-{
-    let r2 = small(slot, 13, 7);
     let r3 = small(slot, 20, 7);
     let hint = hint(slot);
     match (small(slot, 32, 4), small(slot, 30, 2)) {
-        (12, s) => {
-            let size = size(s)?;
-            Some(Memory::Store {
-                release: false,
-                size,
-                hint,
-                r3,
-                r2,
-                increment: None,
-            })
-        }
-        (13, s) => {
-            let size = size(s)?;
-            Some(Memory::Store {
-                release: true,
-                size,
-                hint,
-                r3,
-                r2,
-                increment: None,
-            })
-        }
-        (14, 3) => Some(Memory::Spill {
-            hint,
-            r3,
-            r2,
-            increment: None,
-        }),
-        _ => None,
-    }
-}
-
-// Loads of major opcode 5: with an update of the base by an immediate.
-fn updating_loads(slot: u64) -> Option<Memory>
-    requires major { bits 37 4 slot ≡ 5 }
-    requires load { bits 32 4 slot ≤ 11 }
-    ensures { Reads (Holds slot) result }
-{
-    let r1 = small(slot, 6, 7);
-    let r3 = small(slot, 20, 7);
-    let hint = hint(slot);
-    let size_code = small(slot, 30, 2);
-    let type_code = small(slot, 32, 4);
-    let update = BaseUpdate::Immediate(imm9(slot, 13));
-    match (type_code, size_code) {
         (6, 3) => Some(Memory::Fill {
             hint,
             r1,
             r3,
             update,
         }),
-        _ => {
-            let load_type = load_type(type_code)?;
-            let size = size(size_code)?;
+        (code, _) => {
+            let load_type = load_type(code)?;
             Some(Memory::Load {
                 load_type,
-                size,
+                size: size(slot),
                 hint,
                 r1,
                 r3,
@@ -190,39 +104,24 @@ fn updating_loads(slot: u64) -> Option<Memory>
     }
 }
 
-// Stores of major opcode 5: with an update of the base by an immediate.
-fn updating_stores(slot: u64) -> Option<Memory>
-    requires major { bits 37 4 slot ≡ 5 }
+// Stores, with this increment of the base.
+fn stores(slot: u64, increment: Option<u64>) -> Option<Memory>
     requires store { 12 ≤ bits 32 4 slot }
+    requires increment { IncrementStands slot increment }
     ensures { Reads (Holds slot) result }
 {
     let r2 = small(slot, 13, 7);
     let r3 = small(slot, 20, 7);
     let hint = hint(slot);
-    let increment = Some(imm9(slot, 6));
     match (small(slot, 32, 4), small(slot, 30, 2)) {
-        (12, s) => {
-            let size = size(s)?;
-            Some(Memory::Store {
-                release: false,
-                size,
-                hint,
-                r3,
-                r2,
-                increment,
-            })
-        }
-        (13, s) => {
-            let size = size(s)?;
-            Some(Memory::Store {
-                release: true,
-                size,
-                hint,
-                r3,
-                r2,
-                increment,
-            })
-        }
+        (code @ (12 | 13), _) => Some(Memory::Store {
+            release: code == 13,
+            size: size(slot),
+            hint,
+            r3,
+            r2,
+            increment,
+        }),
         (14, 3) => Some(Memory::Spill {
             hint,
             r3,
@@ -245,24 +144,16 @@ fn management(slot: u64) -> Option<Memory>
         (0, 1, 0) => Some(Memory::Invala),
         (0, 1, 2) => Some(Memory::InvalaE { r1 }),
         (0, 2, 2) => Some(Memory::Mf),
-        (0, 2, 8) => {
-            let register = application(small(slot, 20, 7))?;
-            Some(Memory::ToApplicationImmediate {
-                register,
-                imm: imm8(slot),
-            })
-        }
-        (4, _, _) => Some(Memory::ChkA {
-            clear: Clear::Nc,
+        (0, 2, 8) => Some(Memory::ToApplicationImmediate {
+            register: application(small(slot, 20, 7))?,
+            imm: imm8(slot),
+        }),
+        (0, _, _) => None,
+        (x3, _, _) => Some(Memory::ChkA {
+            clear: clear(x3)?,
             r1,
             offset: offset(slot),
         }),
-        (5, _, _) => Some(Memory::ChkA {
-            clear: Clear::Clr,
-            r1,
-            offset: offset(slot),
-        }),
-        _ => None,
     }
 }
 
@@ -275,14 +166,14 @@ fn moves(slot: u64) -> Option<Memory>
     let r2 = small(slot, 13, 7);
     let r3 = small(slot, 20, 7);
     match (small(slot, 33, 3), small(slot, 27, 6)) {
-        (0, 0x22) => {
-            let register = application(r3)?;
-            Some(Memory::FromApplication { r1, register })
-        }
-        (0, 0x2a) => {
-            let register = application(r3)?;
-            Some(Memory::ToApplication { register, r2 })
-        }
+        (0, 0x22) => Some(Memory::FromApplication {
+            r1,
+            register: application(r3)?,
+        }),
+        (0, 0x2a) => Some(Memory::ToApplication {
+            register: application(r3)?,
+            r2,
+        }),
         (1, _) => Some(Memory::ChkS {
             r2,
             offset: parted_offset(slot),
@@ -307,15 +198,16 @@ pub fn decode(slot: u64) -> Option<Memory>
     match small(slot, 37, 4) {
         0 => management(slot),
         1 => moves(slot),
-        4 if x == 0 && load => loads(slot),
-        4 if x == 0 && m == 0 => stores(slot),
-        5 if load => updating_loads(slot),
-        5 => updating_stores(slot),
+        4 if x == 0 && load && m == 0 => loads(slot, None),
+        4 if x == 0 && load => loads(slot, Some(BaseUpdate::Register(small(slot, 13, 7)))),
+        4 if x == 0 && m == 0 => stores(slot, None),
+        5 if load => loads(slot, Some(BaseUpdate::Immediate(imm9(slot, 13)))),
+        5 => stores(slot, Some(imm9(slot, 6))),
         _ => None,
     }
 }
 
-// Each layout is of 41 bits.
+// Each layout of this crate is of 41 bits.
 pub fn layouts_are_whole()
     ensures { Whole }
 {}

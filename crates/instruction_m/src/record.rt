@@ -2,7 +2,7 @@
 use memory::Size;
 
 // The type of a load, with its acquire and bias forms.
-#[derive(Clone, Copy)]
+#[derive(Clone, Copy, PartialEq, Eq, Debug)]
 pub enum LoadType {
     Normal,
     S,
@@ -15,8 +15,9 @@ pub enum LoadType {
     CClrAcq,
 }
 
-// The locality hint of a load or store. The architecture gives no meaning to `Two`, nor to `Nt1` of a store.
-#[derive(Clone, Copy)]
+// The locality hint of a load or store; `None` is a hint like the others, with a code of its own. The architecture gives no meaning to
+// `Two`, nor to `Nt1` of a store.
+#[derive(Clone, Copy, PartialEq, Eq, Debug)]
 pub enum Hint {
     None,
     Nt1,
@@ -25,22 +26,21 @@ pub enum Hint {
 }
 
 // What is added to the base register after a load.
-#[derive(Clone, Copy)]
+#[derive(Clone, Copy, PartialEq, Eq, Debug)]
 pub enum BaseUpdate {
-    None,
     Register(u8),
     Immediate(u64),
 }
 
 // Whether chk.a drops an entry that it finds.
-#[derive(Clone, Copy)]
+#[derive(Clone, Copy, PartialEq, Eq, Debug)]
 pub enum Clear {
     Clr,
     Nc,
 }
 
-// The application registers that the M unit moves.
-#[derive(Clone, Copy)]
+// The application registers that the M unit moves: a type of its own, since the I unit moves others and neither moves the other's.
+#[derive(Clone, Copy, PartialEq, Eq, Debug)]
 pub enum Application {
     Ccv,
     Unat,
@@ -48,21 +48,22 @@ pub enum Application {
 
 // An instruction of the M unit, but for its qualifying predicate. An immediate is the word that the operation takes; the offset of a
 // branch is in bytes.
-#[derive(Clone, Copy)]
+#[derive(Clone, Copy, PartialEq, Eq, Debug)]
 pub enum Memory {
+    // `update` is added to the base register, if there is one.
     Load {
         load_type: LoadType,
         size: Size,
         hint: Hint,
         r1: u8,
         r3: u8,
-        update: BaseUpdate,
+        update: Option<BaseUpdate>,
     },
     Fill {
         hint: Hint,
         r1: u8,
         r3: u8,
-        update: BaseUpdate,
+        update: Option<BaseUpdate>,
     },
     // `increment` is added to the base register, if there is one.
     Store {

@@ -15,5 +15,5 @@ pub fn tbit(x: u64, position: Position) -> bool
 pub fn popcnt(x: u64) -> u64
     ensures { result ≡ set_bits 64 x }
 {
-    x.count_ones() as u64
+    u64::from(x.count_ones())
 }

@@ -3,7 +3,7 @@ ghost use Rattle.std.specs.Prelude.{◌≡◌, ◌%◌, ◌^◌};
 ghost use Rattle.integer.specs.Relations.{relates};
 
 // A relation between two words. All but `Ltu` read them as signed numbers.
-#[derive(Clone, Copy)]
+#[derive(Clone, Copy, PartialEq, Eq, Debug)]
 pub enum Relation {
     Eq,
     Lt,
@@ -28,19 +28,10 @@ impl Relation {
         }
     }
 
-    // Whether it holds between the low halves of two words.
+    // Whether it holds between the low halves of two words: at the top of a word they compare as words do.
     pub fn holds4(self, a: u64, b: u64) -> bool
         ensures { result ≡ relates 32 self (a % 2 ^ 32) (b % 2 ^ 32) }
     {
-        let x = (a % 0x1_0000_0000) as u32;
-        let y = (b % 0x1_0000_0000) as u32;
-        match self {
-            Relation::Eq => x == y,
-            Relation::Lt => x.cast_signed() < y.cast_signed(),
-            Relation::Ltu => x < y,
-            Relation::Le => x.cast_signed() <= y.cast_signed(),
-            Relation::Gt => y.cast_signed() < x.cast_signed(),
-            Relation::Ge => y.cast_signed() <= x.cast_signed(),
-        }
+        self.holds(a << 32, b << 32)
     }
 }

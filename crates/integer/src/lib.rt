@@ -15,6 +15,6 @@ pub use compare::Relation;
 pub use extend::{Part, sign_extend, sxt, zxt};
 pub use field::{dep, dep_z, extr, extr_u};
 pub use logic::{and, andcm, or, xor};
-pub use place::{Length, Position, Scale};
+pub use place::{BitField, Length, Position, Scale};
 pub use shift::{shl, shr, shr_u, shrp};
 pub use sum::{add, add_one, addp4, shladd, shladdp4, sub, sub_one};

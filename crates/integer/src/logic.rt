@@ -2,6 +2,7 @@
 ghost use Rattle.std.specs.Prelude.{◌≡◌, ℕ, ◌+◌, ◌-◌, ◌%◌, ◌^◌, ◌<◌, min, max, bit_and, bit_or, bit_xor};
 ghost use Rattle.integer.specs.Words.{bit};
 
+#[tactic(auto, using(std::proofs::lemmas::Nat::Bits::bit_at_and))]
 pub fn and(a: u64, b: u64) -> u64
     ensures whole { result ≡ bit_and a b }
     ensures bits { (n : ℕ) → bit n result ≡ min (bit n a) (bit n b) }
@@ -17,6 +18,7 @@ pub fn andcm(a: u64, b: u64) -> u64
     a & !b
 }
 
+#[tactic(auto, using(std::proofs::lemmas::Nat::Bits::bit_at_or))]
 pub fn or(a: u64, b: u64) -> u64
     ensures whole { result ≡ bit_or a b }
     ensures bits { (n : ℕ) → bit n result ≡ max (bit n a) (bit n b) }
@@ -24,6 +26,7 @@ pub fn or(a: u64, b: u64) -> u64
     a | b
 }
 
+#[tactic(auto, using(std::proofs::lemmas::Nat::Bits::bit_at_xor))]
 pub fn xor(a: u64, b: u64) -> u64
     ensures whole { result ≡ bit_xor a b }
     ensures bits { (n : ℕ) → bit n result ≡ (bit n a + bit n b) % 2 }

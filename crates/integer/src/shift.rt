@@ -32,5 +32,5 @@ pub fn shr(x: u64, count: u64) -> u64
 pub fn shrp(high: u64, low: u64, count: Position) -> u64
     ensures { result ≡ pair high low count.bit }
 {
-    ((((high as u128) << 64) + low as u128 >> count.bit()) % 0x1_0000_0000_0000_0000) as u64
+    (((u128::from(high) << 64) + u128::from(low) >> count.bit()) % 0x1_0000_0000_0000_0000) as u64
 }

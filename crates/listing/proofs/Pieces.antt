@@ -1,9 +1,9 @@
 -- Text that is written piece by piece into a buffer.
-use Rattle.std.proofs.Common.{◌≡◌, ℕ, ◌+◌, ◌≤◌, List, [], ◌∷◌, ◌++◌, length, take, drop, set, sym, refl, ap, ◌∙◌, arith}
+use Rattle.std.proofs.Common.{◌≡◌, ℕ, ◌+◌, ◌≤◌, List, [], ◌∷◌, ◌++◌, length, take, set, sym, refl, ap, ◌∙◌, arith}
 use borrow.Rule.Slice.PartMut.{put_mid, post_of}
 use Rattle.std.proofs.lemmas.List.FromFn.{length-map-range_with_len}
-use Rattle.std.proofs.lemmas.List.{take_all, take_at, take_more_set, take-append-drop, length-set, length-append, length-take, length-drop}
-use Rattle.std.proofs.lemmas.Slice.{take-put_mid, drop-put_mid, drop-append-drop}
+use Rattle.std.proofs.lemmas.List.{take_all, take_at, take_more_set, length-set, length-append, length-take, length-drop}
+use Rattle.std.proofs.lemmas.Slice.{take-put_mid}
 use Rattle.listing.specs.Text.{hex_text, line}
 
 pub length-hex : (n x : ℕ) → length (hex_text n x) ≡ n
@@ -19,7 +19,7 @@ length-put : (a k : ℕ) (xs ys : List ℕ) → length ys ≡ k → a + k ≤ le
 length-put a k xs ys e h = simp (length-append, length-take, length-drop) (omega arith)
 
 -- the front of the list after one piece more
-front-more : (a k : ℕ) (xs ys front : List ℕ) (n : ℕ) → take a xs ≡ front → length ys ≡ k → a + k ≡ n → n ≤ length xs → take n (put_mid a k xs ys) ≡ front ++ ys
+pub front-more : (a k : ℕ) (xs ys front : List ℕ) (n : ℕ) → take a xs ≡ front → length ys ≡ k → a + k ≡ n → n ≤ length xs → take n (put_mid a k xs ys) ≡ front ++ ys
 front-more a k xs ys front n e l m h = take-put_mid a k xs ys n (omega arith) (omega arith) ∙ ap (λ f. f ++ ys) e
 
 -- the pieces of a line fill 33 places
@@ -35,18 +35,3 @@ four-pieces out a b c x n na nb nc =
     let f3 = front-more 21 11 t2 c (a ++ b) 32 f2 nc refl (omega arith) in
     let n4 : length (set t3 32 x) ≡ 33 = simp length-set n3 in
     sym (take_all 33 (set t3 32 x) (omega arith)) ∙ take_more_set t3 32 x (omega arith) ∙ ap (λ f. f ++ x ∷ []) f3
-
--- three lines fill the first 99 places of a buffer
-pub three-lines : (buffer a b c : List ℕ) → 99 ≤ length buffer → length a ≡ 33 → length b ≡ 33 → length c ≡ 33 → put_mid 66 33 (put_mid 33 33 (a ++ post_of 0 33 buffer) b) c ≡ a ++ b ++ c ++ drop 99 buffer
-three-lines buffer a b c n na nb nc =
-    let t1 = a ++ post_of 0 33 buffer in
-    let t2 = put_mid 33 33 t1 b in
-    let t3 = put_mid 66 33 t2 c in
-    let n1 : length t1 ≡ length buffer = simp (length-append, length-drop) (omega arith) in
-    let n2 : length t2 ≡ length buffer = length-put 33 33 t1 b nb (omega arith) ∙ n1 in
-    let f2 = front-more 33 33 t1 b a 66 (take_at a _ 33 na) nb refl (omega arith) in
-    let f3 = front-more 66 33 t2 c (a ++ b) 99 f2 nc refl (omega arith) in
-    let d1 : drop 99 t1 ≡ drop 99 buffer = drop-append-drop 33 buffer a 99 (omega arith) na in
-    let d2 : drop 99 t2 ≡ drop 99 t1 = drop-put_mid 33 33 t1 b 99 (omega arith) (omega arith) nb in
-    let d3 : drop 99 t3 ≡ drop 99 t2 = drop-put_mid 66 33 t2 c 99 (omega arith) (omega arith) nc in
-    sym (take-append-drop 99 t3) ∙ cc (f3, d3, d2, d1)

@@ -14,13 +14,14 @@ fn digit(number: u8) -> u8
     }
 }
 
-// Fills `out` with the low digits of the value, the most significant first.
+// Fills `out` with the low digits of the value, the most significant first, as `{:X}` of that width would write them.
 pub(crate) fn write_hex(out: &mut [u8], value: u64)
     requires { length out.old ≤ 16 }
     ensures { out.new ≡ hex_text (length out.old) value }
 {
     let count = out.len();
-    for i in 0..count {
-        out[i] = digit(((value >> (4 * (count - 1 - i))) % 16) as u8);
+    // Counted from the left, as the definition has the digits.
+    for (i, place) in out.iter_mut().enumerate() {
+        *place = digit(((value >> (4 * (count - 1 - i))) % 16) as u8);
     }
 }

@@ -13,13 +13,10 @@ fn letter(template: Option<Template>, slot: usize) -> u8
     requires { slot < 3 }
     ensures { result ≡ letter_in template slot }
 {
-    match template {
-        Some(template) => template.units[slot].letter(),
-        None => b'?',
-    }
+    template.map_or(b'?', |template| template.units[slot].letter())
 }
 
-// Fills `out` with the line of a slot.
+// Fills `out` with the line of a slot: by its parts, since `write!` to a slice promises nothing of the bytes that it leaves.
 fn write_line(out: &mut [u8], address: u64, slot: u8, letter: u8, bits: u64)
     requires room { length out.old ≡ 33 }
     requires few { slot < 3 }
@@ -37,10 +34,13 @@ fn write_bundle(out: &mut [u8], address: u64, bundle: Bundle)
     ensures { out.new ≡ bundle_lines address bundle ++ drop 99 out.old }
 {
     let (number, slot0, slot1, slot2) = bundle.split();
-    let template = Template::from_number(number);
-    write_line(&mut out[0..33], address, 0, letter(template, 0), slot0);
-    write_line(&mut out[33..66], address, 1, letter(template, 1), slot1);
-    write_line(&mut out[66..99], address, 2, letter(template, 2), slot2);
+    let template = Template::try_from(number).ok();
+    let slots = [slot0, slot1, slot2];
+    // No `chunks_exact_mut`: what was written through it is not known after the loop.
+    for (k, bits) in slots.iter().enumerate() {
+        let line = &mut out[33 * k..33 * k + 33];
+        write_line(line, address, k as u8, letter(template, k), *bits);
+    }
 }
 
 // Writes the lines of the bundle at the address into the buffer, of which they take the first 99 bytes.
@@ -54,9 +54,7 @@ pub fn list_bundle<M: Readable>(memory: &M, address: u64, buffer: &mut [u8]) -> 
     if address % 16 != 0 {
         return Err(Refusal::NotReadable);
     }
-    let Ok(bundle) = Bundle::fetch(memory, address) else {
-        return Err(Refusal::NotReadable);
-    };
+    let bundle = Bundle::fetch(memory, address).map_err(|_| Refusal::NotReadable)?;
     write_bundle(buffer, address, bundle);
     Ok(())
 }

@@ -1,4 +1,4 @@
-// Why the lister refuses a call.
+// Why the lister refuses a call: for other reasons than the set-up of a memory, so with an enum of its own.
 ghost use Rattle.std.specs.Prelude.{◌≡◌};
 ghost use Rattle.listing.specs.Refusals.{number_of};
 
@@ -11,7 +11,7 @@ pub enum Refusal {
 }
 
 impl Refusal {
-    // The number of the refusal.
+    // The number of the refusal: a method, since its name says what the byte is.
     pub fn number(self) -> u8
         ensures { result ≡ number_of self }
     {

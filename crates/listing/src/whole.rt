@@ -18,6 +18,7 @@ fn list_all(heap: Global, bytes: &[u8]) -> Result<Vec<u8>, AllocError>
     let count = bytes.len() / 16;
     let mut text = Vec::with_capacity(heap, 99 * count)?;
     let mut lines = [0; 99];
+    // By number, and not by addresses in steps of 16: the text so far is the lines of so many bundles.
     for k in 0..count {
         list_bundle(&image, 16 * k as u64, &mut lines).unwrap();
         text.extend_from_slice(&lines)?;

@@ -13,14 +13,19 @@ fn main(rt: HostRuntime) -> io::Result<()> {
 
 #[cfg(test)]
 mod tests {
-    use bundle::{Bundle, Template};
+    use bundle::{Bundle, Template, UnknownTemplate};
     use listing::{Refusal, list_bundle, list_image};
-    use memory::{Image, Readable, Right, Size};
+    use memory::{Access, Image, MissingRight, Readable, Right, Size};
     use std::alloc::{AllocError, Global};
     use std::test::Fail;
 
     const ZERO_BUNDLE: &str =
         "0000000000000000 0 M 00000000000\n0000000000000000 1 I 00000000000\n0000000000000000 2 I 00000000000\n";
+
+    // Of this many bytes, from this address up.
+    fn access(address: u64, size: Size) -> Access {
+        Access { address, size }
+    }
 
     // The length of the listing of this many zero bytes.
     fn listed(heap: Global, count: usize) -> Result<usize, AllocError> {
@@ -121,38 +126,35 @@ mod tests {
             list_bundle(&half, u64::MAX - 15, &mut buffer),
             Err(Refusal::NotReadable)
         );
-        assert!(rt; half.grants(Right::Read, u64::MAX - 7, Size::Eight));
-        assert!(rt; !half.grants(Right::Read, u64::MAX - 6, Size::Eight));
-        assert!(rt; half.grants(Right::Read, u64::MAX, Size::One));
-        assert!(rt; !half.grants(Right::Read, u64::MAX, Size::Two));
-        assert!(rt; !half.grants(Right::Read, 0, Size::One));
+        assert!(rt; half.grants(Right::Read, access(u64::MAX - 7, Size::Eight)));
+        assert!(rt; !half.grants(Right::Read, access(u64::MAX - 6, Size::Eight)));
+        assert!(rt; half.grants(Right::Read, access(u64::MAX, Size::One)));
+        assert!(rt; !half.grants(Right::Read, access(u64::MAX, Size::Two)));
+        assert!(rt; !half.grants(Right::Read, access(0, Size::One)));
     }
 
     #[test]
-    fn an_image_is_only_read(rt: HostRuntime) -> Result<(), Fail> {
+    fn an_image_is_only_read(rt: HostRuntime) {
         let image = Image::new(0x1000, &[1, 2, 3, 4, 5, 6, 7, 8, 9]);
-        assert!(rt; !image.grants(Right::Write, 0x1000, Size::One));
-        assert!(rt; !image.grants(Right::Speculative, 0x1000, Size::One));
+        assert!(rt; !image.grants(Right::Write, access(0x1000, Size::One)));
+        assert!(rt; !image.grants(Right::Speculative, access(0x1000, Size::One)));
         assert_eq!(rt;
-            image.load(0x1001, Size::Eight).ok(),
-            Some(0x0908_0706_0504_0302)
+            image.load(access(0x1001, Size::Eight)),
+            Ok(0x0908_0706_0504_0302)
         );
-        assert_eq!(rt; image.load(0x1005, Size::Four).ok(), Some(0x0908_0706));
-        assert_eq!(rt; image.load(0x1007, Size::Two).ok(), Some(0x0908));
-        assert_eq!(rt; image.load(0x1008, Size::One).ok(), Some(9));
-        match image.load(0x1006, Size::Four) {
-            Err(missing) => {
-                assert_eq!(rt; missing.address, 0x1006);
-                Ok(())
-            },
-            Ok(_) => Err(Fail::new("a byte past the image was read")),
-        }
+        assert_eq!(rt; image.load(access(0x1005, Size::Four)), Ok(0x0908_0706));
+        assert_eq!(rt; image.load(access(0x1007, Size::Two)), Ok(0x0908));
+        assert_eq!(rt; image.load(access(0x1008, Size::One)), Ok(9));
+        assert_eq!(rt;
+            image.load(access(0x1006, Size::Four)),
+            Err(MissingRight { address: 0x1006 })
+        );
     }
 
     #[test]
     fn reserved_templates_have_no_units(rt: HostRuntime) {
         for number in [0x06, 0x07, 0x14, 0x15, 0x1A, 0x1B, 0x1E, 0x1F, 0x20, 0xFF] {
-            assert!(rt; Template::from_number(number).is_none());
+            assert_eq!(rt; Template::try_from(number), Err(UnknownTemplate { number }));
         }
     }
 }

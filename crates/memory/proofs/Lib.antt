@@ -4,3 +4,4 @@ pub mod Puts
 pub mod Ranges
 pub mod Stores
 pub mod Top
+pub mod Words

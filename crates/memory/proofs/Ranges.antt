@@ -108,3 +108,6 @@ each_none test a = refl
 pub each_more : (test : ℕ → Bool) (a n : ℕ) → true ≡ each test a n → test (a + n) ≡ true → true ≡ each test a (n + 1)
 unfolding each
 each_more test a n e t = rw add-one (sym (and_from (test (a + n)) _ t (sym e)))
+
+-- whether a range of addresses covers an access
+pub ruleset covering = (each-inside, some_bytes, nat_tests)

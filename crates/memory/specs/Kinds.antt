@@ -35,8 +35,8 @@ laid-bounded rights base bytes a h =
     let past : ltb a (min (base + length bytes) (2 ^ 64)) ≡ false = le-ltb a _ (omega arith) in
     cond-false _ _ _ (and_right (nat_le base a) _ past)
 
-abbrev pub image_bounded : (base : ℕ) (bytes : List ℕ) (a : ℕ) → 2 ^ 64 ≤ a → image base bytes a ≡ nowhere
-image_bounded = laid-bounded read_only
+abbrev pub image-bounded : (base : ℕ) (bytes : List ℕ) (a : ℕ) → 2 ^ 64 ≤ a → image base bytes a ≡ nowhere
+image-bounded = laid-bounded read_only
 
 abbrev pub flat-bounded : (base : ℕ) (bytes : List ℕ) (a : ℕ) → 2 ^ 64 ≤ a → flat base bytes a ≡ nowhere
 flat-bounded = laid-bounded all_rights

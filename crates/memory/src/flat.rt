@@ -1,13 +1,13 @@
 // Flat memory: bytes of the caller with all rights.
 ghost use Rattle.std.specs.Prelude.{◌≡◌};
-ghost use Rattle.memory.specs.Kinds.{flat, flat-bounded as flat_bounded};
+ghost use Rattle.memory.specs.Kinds.{flat, flat-bounded};
 
-use crate::access::{MissingRight, Right, Size};
+use crate::access::{Access, MissingRight, Right};
 use crate::bytes::{covers, load_from, store_into};
 use crate::readable::Readable;
 use crate::writable::Writable;
 
-// The bytes from `base` up have all rights; elsewhere there is no memory.
+// The bytes from `base` up have all rights; elsewhere there is no memory. An image is a type beside it, since its bytes are lent to be read.
 #[derive(Drop)]
 pub struct Flat<'a> {
     base: u64,
@@ -26,19 +26,19 @@ impl<'a> Flat<'a> {
 impl Readable for Flat<'_> {
     ghost meaning = { λ s. flat s.base s.bytes.now };
 
-    ghost bounded = { λ s. flat_bounded s.base s.bytes.now };
+    ghost bounded = { λ s. flat-bounded s.base s.bytes.now };
 
-    fn load(&self, address: u64, size: Size) -> Result<u64, MissingRight> {
-        load_from(self.base, self.bytes, address, size)
+    fn load(&self, access: Access) -> Result<u64, MissingRight> {
+        load_from(self.base, self.bytes, access)
     }
 
-    fn grants(&self, _right: Right, address: u64, size: Size) -> bool {
-        covers(self.base, self.bytes.len(), address, size)
+    fn grants(&self, _right: Right, access: Access) -> bool {
+        covers(self.base, self.bytes.len(), access)
     }
 }
 
 impl Writable for Flat<'_> {
-    fn store(&mut self, address: u64, size: Size, value: u64) -> Result<(), MissingRight> {
-        store_into(self.base, self.bytes, address, size, value)
+    fn store(&mut self, access: Access, value: u64) -> Result<(), MissingRight> {
+        store_into(self.base, self.bytes, access, value)
     }
 }

@@ -1,8 +1,8 @@
 // An image: bytes of the caller that are only read.
 ghost use Rattle.std.specs.Prelude.{◌≡◌};
-ghost use Rattle.memory.specs.Kinds.{image, image_bounded as image_is_bounded};
+ghost use Rattle.memory.specs.Kinds.{image, image-bounded};
 
-use crate::access::{MissingRight, Right, Rights, Size};
+use crate::access::{Access, MissingRight, Right, Rights};
 use crate::bytes::{covers, load_from};
 use crate::readable::Readable;
 
@@ -12,7 +12,7 @@ const READ_ONLY: Rights = Rights {
     speculative: false,
 };
 
-// The bytes from `base` up can be read; elsewhere there is no memory.
+// The bytes from `base` up can be read; elsewhere there is no memory. Flat memory is a type beside it, since its bytes are lent to be written.
 #[derive(Drop)]
 pub struct Image<'a> {
     base: u64,
@@ -31,16 +31,13 @@ impl<'a> Image<'a> {
 impl Readable for Image<'_> {
     ghost meaning = { λ s. image s.base s.bytes.now };
 
-    ghost bounded = { λ s. image_is_bounded s.base s.bytes.now };
+    ghost bounded = { λ s. image-bounded s.base s.bytes.now };
 
-    fn load(&self, address: u64, size: Size) -> Result<u64, MissingRight> {
-        load_from(self.base, self.bytes, address, size)
+    fn load(&self, access: Access) -> Result<u64, MissingRight> {
+        load_from(self.base, self.bytes, access)
     }
 
-    fn grants(&self, right: Right, address: u64, size: Size) -> bool {
-        if !READ_ONLY.has(right) {
-            return false;
-        }
-        covers(self.base, self.bytes.len(), address, size)
+    fn grants(&self, right: Right, access: Access) -> bool {
+        READ_ONLY.has(right) && covers(self.base, self.bytes.len(), access)
     }
 }

@@ -9,7 +9,7 @@ mod readable;
 mod refusal;
 mod writable;
 
-pub use access::{MissingRight, Right, Rights, Size};
+pub use access::{Access, MissingRight, Right, Rights, Size};
 pub use bytes::{covers, load_from, store_into};
 pub use flat::Flat;
 pub use image::Image;

@@ -3,7 +3,7 @@ ghost use Rattle.std.specs.Prelude.{◌≡◌, ℕ, ◌^◌, ◌≤◌};
 ghost use Rattle.memory.specs.Access.{bytes_of};
 ghost use Rattle.memory.specs.Meaning.{Meaning, granted, loaded, nowhere};
 
-use crate::access::{MissingRight, Right, Size};
+use crate::access::{Access, MissingRight, Right};
 
 pub trait Readable {
     // What the memory means: a byte and rights for each address.
@@ -12,11 +12,11 @@ pub trait Readable {
     // There is no memory past the top address, so an access that would pass it has no right.
     ghost bounded: { (memory : Self) (a : ℕ) → 2 ^ 64 ≤ a → meaning memory a ≡ nowhere };
 
-    // The little-endian word at the address, if each of its bytes may be read.
-    fn load(&self, address: u64, size: Size) -> Result<u64, MissingRight>
-        ensures { result ≡ loaded (meaning self.now) address size };
+    // The little-endian word of the access, if each of its bytes may be read.
+    fn load(&self, access: Access) -> Result<u64, MissingRight>
+        ensures { result ≡ loaded (meaning self.now) access.address access.size };
 
     // Whether each byte of the access has the right.
-    fn grants(&self, right: Right, address: u64, size: Size) -> bool
-        ensures { result ≡ granted (meaning self.now) right address (bytes_of size) };
+    fn grants(&self, right: Right, access: Access) -> bool
+        ensures { result ≡ granted (meaning self.now) right access.address (bytes_of access.size) };
 }

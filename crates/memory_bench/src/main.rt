@@ -3,7 +3,7 @@
 #![tactic(auto)]
 
 use anyhow::anyhow;
-use memory::{Flat, Readable, Refusal, Rights, Size, Writable};
+use memory::{Access, Flat, Readable, Refusal, Rights, Size, Writable};
 use paged::{PageMap, PageTable, Paged};
 use protection::{Protection, Range, Ranges};
 use std::alloc::Global;
@@ -17,6 +17,40 @@ const ALL: Rights = Rights {
     speculative: true,
 };
 
+// The memory that is timed: a KIND other than flat and paged is protected.
+#[derive(Clone, Copy)]
+enum Kind {
+    Flat,
+    Paged,
+    Protected,
+}
+
+impl From<&str> for Kind {
+    fn from(text: &str) -> Kind {
+        match text {
+            "flat" => Kind::Flat,
+            "paged" => Kind::Paged,
+            _ => Kind::Protected,
+        }
+    }
+}
+
+// What is done to it: an ACTION other than load is a store.
+#[derive(Clone, Copy)]
+enum Action {
+    Load,
+    Store,
+}
+
+impl From<&str> for Action {
+    fn from(text: &str) -> Action {
+        match text {
+            "load" => Action::Load,
+            _ => Action::Store,
+        }
+    }
+}
+
 // The next of a fixed sequence of numbers; its upper bits pick the word.
 fn next(state: u64) -> u64 {
     state
@@ -24,44 +58,42 @@ fn next(state: u64) -> u64 {
         .wrapping_add(1442695040888963407)
 }
 
-fn loads<M: Writable>(memory: &M, rounds: u64) -> u64 {
+// The word that a number of the sequence picks.
+fn word(state: u64) -> Access {
+    Access {
+        address: (state >> 32) % WORDS * 8,
+        size: Size::Eight,
+    }
+}
+
+// The sum of what the step gives in each round, from the number of the sequence that the round has.
+fn sum<F: FnMut(u64) -> Option<u64>>(rounds: u64, mut step: F) -> u64
+    requires { F.IsAlwaysCallable step }
+{
     let mut state = 1;
     let mut sum = 0u64;
     for _ in 0..rounds {
         state = next(state);
-        if let Ok(word) = memory.load((state >> 32) % WORDS * 8, Size::Eight) {
+        if let Some(word) = step(state) {
             sum = sum.wrapping_add(word);
         }
     }
     sum
 }
 
-fn stores<M: Writable>(memory: &mut M, rounds: u64) -> u64 {
-    let mut state = 1;
-    let mut sum = 0u64;
-    for _ in 0..rounds {
-        state = next(state);
-        if memory
-            .store((state >> 32) % WORDS * 8, Size::Eight, state)
-            .is_ok()
-        {
-            sum = sum.wrapping_add(state);
-        }
-    }
-    sum
-}
-
-fn work<M: Writable>(memory: &mut M, action: &str, rounds: u64) -> u64 {
+fn work<M: Writable>(memory: &mut M, action: Action, rounds: u64) -> u64 {
     match action {
-        "load" => loads(memory, rounds),
-        _ => stores(memory, rounds),
+        Action::Load => sum(rounds, |state| memory.load(word(state)).ok()),
+        Action::Store => sum(rounds, |state| {
+            memory.store(word(state), state).is_ok().then_some(state)
+        }),
     }
 }
 
 fn pages() -> Result<PageTable, Refusal> {
     let mut map = PageMap::new(262144);
-    for i in 0..64u64 {
-        map.map(4096 * i, ALL)?;
+    for base in (0..262144).step_by(4096) {
+        map.map(base, ALL)?;
     }
     Ok(map.finish())
 }
@@ -77,22 +109,19 @@ fn ranges() -> Result<Ranges, Refusal> {
     Ok(ranges)
 }
 
-fn run(heap: Global, kind: &str, action: &str, rounds: u64) -> anyhow::Result<u64> {
+fn run(heap: Global, kind: Kind, action: Action, rounds: u64) -> anyhow::Result<u64> {
     let mut bytes = vec![in heap; 1u8; 262144]?;
     match kind {
-        "flat" => Ok(work(&mut Flat::new(0, &mut bytes), action, rounds)),
-        "paged" => match pages() {
-            Ok(table) => Ok(work(&mut Paged::new(&table, &mut bytes), action, rounds)),
-            Err(_) => Err(anyhow!("a page was refused")),
-        },
-        _ => match ranges() {
-            Ok(ranges) => Ok(work(
-                &mut Protection::new(Flat::new(0, &mut bytes), ranges),
-                action,
-                rounds,
-            )),
-            Err(_) => Err(anyhow!("a range was refused")),
-        },
+        Kind::Flat => Ok(work(&mut Flat::new(0, &mut bytes), action, rounds)),
+        Kind::Paged => {
+            let table = pages().map_err(|_| anyhow!("a page was refused"))?;
+            Ok(work(&mut Paged::new(&table, &mut bytes), action, rounds))
+        }
+        Kind::Protected => {
+            let ranges = ranges().map_err(|_| anyhow!("a range was refused"))?;
+            let mut memory = Protection::new(Flat::new(0, &mut bytes), ranges);
+            Ok(work(&mut memory, action, rounds))
+        }
     }
 }
 
@@ -103,8 +132,8 @@ fn main(rt: HostRuntime) -> anyhow::Result<()> {
     };
     let sum = run(
         rt.alloc(),
-        kind.as_str(),
-        action.as_str(),
+        Kind::from(kind.as_str()),
+        Action::from(action.as_str()),
         rounds.as_str().parse::<u64>()?,
     )?;
     println!(rt; "{sum:016x}")?;

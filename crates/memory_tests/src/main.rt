@@ -1,14 +1,18 @@
-// Memories of every kind side by side: each access of the input is tried on all of them, through the interfaces alone, and the
+// Memories of every kind side by side: each case of the input is tried on all of them, through the interfaces alone, and the
 // answers are printed on one line.
 #![tactic(auto)]
 
-use memory::{Flat, Image, Readable, Refusal, Right, Rights, Size, Writable};
+use memory::{Access, Flat, Image, Readable, Refusal, Right, Rights, Size, Writable};
 use paged::{PageMap, PageTable, Paged};
 use protection::{Protection, Range, Ranges};
 use std::alloc::{AllocError, Global};
 use std::fmt::Write as FormatWrite;
 use std::io::{Read, Write};
 use std::{fmt, io};
+use thiserror::Error;
+
+// How many bytes of the input are a case.
+const CASE: usize = 18;
 
 #[derive(Clone, Copy)]
 enum Action {
@@ -17,11 +21,38 @@ enum Action {
     Ask(Right),
 }
 
+// An access, and what is tried there.
 #[derive(Clone, Copy)]
-struct Access {
+struct Case {
     action: Action,
-    size: Size,
-    address: u64,
+    access: Access,
+}
+
+impl Case {
+    // The case that these bytes are: the action, the size, the address and the value to store. The numbers are the input's own.
+    fn new(bytes: &[u8]) -> Option<Case> {
+        let ([action, size], words) = bytes.split_first_chunk::<2>()?;
+        let (address, words) = words.split_first_chunk::<8>()?;
+        let value = words.first_chunk::<8>()?;
+        let action = match *action {
+            0 => Action::Load,
+            1 => Action::Store(u64::from_le_bytes(*value)),
+            2 => Action::Ask(Right::Read),
+            3 => Action::Ask(Right::Write),
+            _ => Action::Ask(Right::Speculative),
+        };
+        let size = match *size {
+            0 => Size::One,
+            1 => Size::Two,
+            2 => Size::Four,
+            _ => Size::Eight,
+        };
+        let address = u64::from_le_bytes(*address);
+        Some(Case {
+            action,
+            access: Access { address, size },
+        })
+    }
 }
 
 #[derive(Clone, Copy)]
@@ -46,50 +77,25 @@ impl fmt::Display for Answer {
     }
 }
 
-fn reading<M: Readable>(memory: &M, access: Access) -> Answer {
-    match access.action {
-        Action::Load => match memory.load(access.address, access.size) {
+fn reading<M: Readable>(memory: &M, case: Case) -> Answer {
+    match case.action {
+        Action::Load => match memory.load(case.access) {
             Ok(word) => Answer::Word(word),
             Err(missing) => Answer::Missing(missing.address),
         },
         Action::Store(_) => Answer::NotTried,
-        Action::Ask(right) => Answer::Granted(memory.grants(right, access.address, access.size)),
+        Action::Ask(right) => Answer::Granted(memory.grants(right, case.access)),
     }
 }
 
-fn writing<M: Writable>(memory: &mut M, access: Access) -> Answer {
-    match access.action {
-        Action::Store(value) => match memory.store(access.address, access.size, value) {
+fn writing<M: Writable>(memory: &mut M, case: Case) -> Answer {
+    match case.action {
+        Action::Store(value) => match memory.store(case.access, value) {
             Ok(()) => Answer::Stored,
             Err(missing) => Answer::Missing(missing.address),
         },
-        _ => reading(memory, access),
+        _ => reading(memory, case),
     }
-}
-
-// The access that stands at this place of the input; none past its end.
-fn parse(input: &Image<'_>, at: u64) -> Option<Access> {
-    let action = input.load(at, Size::One).ok()?;
-    let size = match input.load(at.checked_add(1)?, Size::One).ok()? {
-        0 => Size::One,
-        1 => Size::Two,
-        2 => Size::Four,
-        _ => Size::Eight,
-    };
-    let address = input.load(at.checked_add(2)?, Size::Eight).ok()?;
-    let value = input.load(at.checked_add(10)?, Size::Eight).ok()?;
-    let action = match action {
-        0 => Action::Load,
-        1 => Action::Store(value),
-        2 => Action::Ask(Right::Read),
-        3 => Action::Ask(Right::Write),
-        _ => Action::Ask(Right::Speculative),
-    };
-    Some(Access {
-        action,
-        size,
-        address,
-    })
 }
 
 fn rights(read: bool, write: bool, speculative: bool) -> Rights {
@@ -134,46 +140,25 @@ fn ranges() -> Result<Ranges, Refusal> {
 
 // The bytes that a memory has at first.
 fn data(heap: Global, count: usize) -> Result<Vec<u8>, AllocError> {
-    let mut bytes = Vec::with_capacity(heap, count)?;
-    for i in 0..count {
-        bytes.push((i % 256 * 7 % 256) as u8)?;
-    }
-    Ok(bytes)
+    (0..count).map(|i| (i % 256 * 7 % 256) as u8).collect(heap)
 }
 
 // What can go wrong: the set-up of a memory, its input or the machine that it runs on.
-#[derive(Debug, Drop)]
+#[derive(Debug, Drop, Error)]
 enum Trouble {
-    Refused(Refusal),
+    #[error("the set-up of a memory is refused: {0:?}")]
+    Refused(#[from] Refusal),
+    #[error("the input ends within a case")]
     CutInput,
-    Other(anyhow::Error),
+    #[error(transparent)]
+    Memory(#[from(alloc)] AllocError),
+    #[error(transparent)]
+    Text(#[from] fmt::Error),
+    #[error(transparent)]
+    Stream(#[from] io::Error),
 }
 
-impl From<Refusal> for Trouble {
-    fn from(refusal: Refusal) -> Trouble {
-        Trouble::Refused(refusal)
-    }
-}
-
-impl From<AllocError> for Trouble {
-    fn from(error: AllocError) -> Trouble {
-        Trouble::Other(error.into())
-    }
-}
-
-impl From<fmt::Error> for Trouble {
-    fn from(error: fmt::Error) -> Trouble {
-        Trouble::Other(error.into())
-    }
-}
-
-impl From<io::Error> for Trouble {
-    fn from(error: io::Error) -> Trouble {
-        Trouble::Other(error.into())
-    }
-}
-
-// The answers of all memories to each access of the input, a line for each.
+// The answers of all memories to each case of the input, a line for each.
 fn answers(heap: Global, input: &[u8]) -> Result<String, Trouble> {
     let table = pages()?;
     let mut outer = Ranges::new();
@@ -199,19 +184,17 @@ fn answers(heap: Global, input: &[u8]) -> Result<String, Trouble> {
         Protection::new(Paged::new(&table, &mut large3), ranges()?),
         outer,
     );
-    let given = Image::new(0, input);
     let mut text = String::new(heap);
-    for k in 0..input.len() as u64 / 18 {
-        let Some(access) = parse(&given, 18 * k) else {
-            return Err(Trouble::CutInput);
-        };
-        let a = reading(&image, access);
-        let b = writing(&mut flat, access);
-        let c = writing(&mut top, access);
-        let d = writing(&mut paged, access);
-        let e = writing(&mut over_flat, access);
-        let f = writing(&mut over_paged, access);
-        let g = writing(&mut twice, access);
+    for bytes in input.chunks_exact(CASE) {
+        let case = Case::new(bytes).ok_or(Trouble::CutInput)?;
+        // Each memory by its name: they hold references of several lifetimes, which an array of `&mut dyn Writable` can't.
+        let a = reading(&image, case);
+        let b = writing(&mut flat, case);
+        let c = writing(&mut top, case);
+        let d = writing(&mut paged, case);
+        let e = writing(&mut over_flat, case);
+        let f = writing(&mut over_paged, case);
+        let g = writing(&mut twice, case);
         writeln!(text, "{a} {b} {c} {d} {e} {f} {g}")?;
     }
     Ok(text)

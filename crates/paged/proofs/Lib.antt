@@ -1,3 +1,4 @@
 pub mod Accesses
-pub mod Maps
+pub mod Bytewise
+pub mod Mapped
 pub mod Places

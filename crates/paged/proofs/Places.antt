@@ -1,31 +1,44 @@
 -- The place of the page that holds an address.
-use Rattle.std.proofs.Common.{◌≡◌, ℕ, zero, suc, ◌-◌, ◌%◌, ◌^◌, ◌<◌, ◌≤◌, Bool, true, false, cond, List, [], ◌∷◌, length, get_or, take, is_some, Some, None, Option, sym, refl, ap, ◌∙◌, arith}
+use Rattle.std.proofs.Common.{◌≡◌, ℕ, zero, suc, ◌+◌, ◌-◌, ◌*◌, ◌%◌, ◌^◌, ◌<◌, ◌≤◌, Bool, true, false, not, cond, eqb, ltb, List, [], ◌∷◌, ◌++◌, length, get_or, is_some, Some, None, Option, sym, refl, ap, ◌∙◌, ⊎_elim, arith}
 use Rattle.std.specs.Option.{option_map}
-use Rattle.std.proofs.lemmas.List.{get_or-take, length-take}
-use Rattle.std.proofs.lemmas.Bool.{cond-true, cond-false, both_ways}
+use Rattle.std.specs.List.{position, position_or_len}
+use Rattle.std.proofs.Math.ListN.{get_or-append}
+use Rattle.std.proofs.Math.Seq.{get_or-append_seam}
+use Rattle.std.proofs.lemmas.Bool.{cond-true, cond-false, both_ways, cases_eq, cases_lt, eq-eqb, ne_eqb, le-ltb, lt-ltb}
 use Rattle.std.proofs.lemmas.Bool.Decides.{nat_tests}
 use Rattle.memory.specs.Kinds.{inside}
 use Rattle.paged.specs.declared.page.Page.{Page}
-use Rattle.paged.specs.Pages.{clash, index_of, no_page}
+use Rattle.paged.specs.declared.page.Place.{Place}
+use Rattle.paged.specs.Pages.{Separate, index_of, no_page, place_for}
 
 -- an address lies in the page whose base it has when it is rounded down
-pub holds : (base a : ℕ) → a < 2 ^ 64 → base ≡ a - a % 4096 → inside base 4096 a ≡ true
+holds : (base a : ℕ) → a < 2 ^ 64 → base ≡ a - a % 4096 → inside base 4096 a ≡ true
 holds base a top e = grind (arith, nat_tests)
 
-pub holds_not : (base a : ℕ) → base % 4096 ≡ 0 → (base ≡ a - a % 4096 → ⊥) → inside base 4096 a ≡ false
+holds_not : (base a : ℕ) → base % 4096 ≡ 0 → (base ≡ a - a % 4096 → ⊥) → inside base 4096 a ≡ false
 holds_not base a aligned ne = grind (arith, nat_tests)
 
-index_at : (ps : List Page) (a i : ℕ) → i < length ps → inside (get_or ps i no_page).base 4096 a ≡ true → ((j : ℕ) → j < i → inside (get_or ps j no_page).base 4096 a ≡ false) → index_of ps a ≡ Some i
-unfolding index_of
-index_at [] a i h here before = absurd (omega arith)
-index_at (p ∷ ps) a zero h here before = cond-true _ _ _ here
-index_at (p ∷ ps) a (suc i) h here before =
-    cond-false _ _ _ (before 0 (omega arith)) ∙ ap (option_map suc) (index_at ps a i (omega arith) here (λ j l. before (suc j) (omega arith)))
+-- which page holds an address, by its base
+abbrev pub at_base : ℕ → Page → Bool
+at_base base page = eqb page.base base
 
-index-none : (ps : List Page) (a : ℕ) → ((j : ℕ) → j < length ps → inside (get_or ps j no_page).base 4096 a ≡ false) → index_of ps a ≡ None
+inside_at : (base a : ℕ) → base % 4096 ≡ 0 → a < 2 ^ 64 → inside base 4096 a ≡ eqb base (a - a % 4096)
+inside_at base a aligned top =
+    ⊎_elim (λ e. holds base a top e ∙ sym (eq-eqb _ _ e)) (λ ne. holds_not base a aligned ne ∙ sym (ne_eqb _ _ ne)) (cases_eq base (a - a % 4096))
+
+position-step : (t : Bool) (n len : ℕ) → cond (ltb (cond (not t) (1 + n) 0) (suc len)) (Some (cond (not t) (1 + n) 0)) None ≡ cond t (Some 0) (option_map suc (cond (ltb n len) (Some n) None))
+position-step true n len = cond-true _ _ _ (lt-ltb 0 (suc len) (omega arith))
+position-step false n len =
+    ⊎_elim (λ h. cond-true _ _ _ (lt-ltb (1 + n) (suc len) (omega arith)) ∙ ap Some (omega arith) ∙ sym (ap (option_map suc) (cond-true _ _ _ (lt-ltb n len h))))
+    (λ h. cond-false _ _ _ (le-ltb (1 + n) (suc len) (omega arith)) ∙ sym (ap (option_map suc) (cond-false _ _ _ (le-ltb n len h)))) (cases_lt n len)
+
+aligned-position : (ps : List Page) → ((i : ℕ) → i < length ps → (get_or ps i no_page).base % 4096 ≡ 0) → (a : ℕ) → a < 2 ^ 64 → index_of ps a ≡ position (at_base (a - a % 4096)) ps
 unfolding index_of
-index-none [] a none = refl
-index-none (p ∷ ps) a none = cond-false _ _ _ (none 0 (omega arith)) ∙ ap (option_map suc) (index-none ps a (λ j l. none (suc j) (omega arith)))
+aligned-position [] aligned a top = refl
+aligned-position (p ∷ ps) aligned a top =
+    ap (λ b. cond b (Some 0) (option_map suc (index_of ps a))) (inside_at p.base a (aligned 0 (omega arith)) top)
+    ∙ ap (λ o. cond (at_base (a - a % 4096) p) (Some 0) (option_map suc o)) (aligned-position ps (λ i h. aligned (suc i) (omega arith)) a top)
+    ∙ sym (position-step (at_base (a - a % 4096) p) (position_or_len (at_base (a - a % 4096)) ps) (length ps))
 
 index-some : (ps : List Page) (a i : ℕ) → i < length ps → inside (get_or ps i no_page).base 4096 a ≡ true → is_some (index_of ps a) ≡ true
 unfolding index_of
@@ -57,31 +70,93 @@ index-holds (p ∷ ps) a i e = here (inside p.base 4096 a) (index_of ps a) refl 
         let r = rest k refl in
         (omega arith, ap (λ j. inside (get_or (p ∷ ps) j no_page).base 4096 a) (sym z) ∙ r.1)
 
--- of the first n pages, all with aligned bases
-module _ (pages : List Page) (n : ℕ) (few : n ≤ length pages) (aligned : (i : ℕ) → i < n → (get_or pages i no_page).base % 4096 ≡ 0) (a : ℕ) (top : a < 2 ^ 64) where
-  length-first : length (take n pages) ≡ n
-  length-first = length-take n pages ∙ omega arith
+-- every page of the list begins at a multiple of the page's size
+abbrev pub Aligned : List Page → Type 0
+Aligned ps = (i : ℕ) → i < length ps → (get_or ps i no_page).base % 4096 ≡ 0
 
-  pub found_at : (i : ℕ) → i < n → (get_or pages i no_page).base ≡ a - a % 4096 → ((j : ℕ) → j < i → (get_or pages j no_page).base ≡ a - a % 4096 → ⊥) → Some i ≡ index_of (take n pages) a
-  found_at i h here before =
-      let len = length-first in
-      let is : inside (get_or (take n pages) i no_page).base 4096 a ≡ true = ap (λ p. inside p.base 4096 a) (get_or-take n pages i no_page h) ∙ holds _ a top here in
-      let none : (j : ℕ) → j < i → inside (get_or (take n pages) j no_page).base 4096 a ≡ false =
-      λ j l. ap (λ p. inside p.base 4096 a) (get_or-take n pages j no_page (omega arith)) ∙ holds_not _ a (aligned j (omega arith)) (before j l) in
-      sym (index_at (take n pages) a i (omega arith) is none)
+inside-same : (base a k : ℕ) → base % 4096 ≡ 0 → a < 2 ^ 64 → k < 4096 - a % 4096 → inside base 4096 (a + k) ≡ inside base 4096 a
+inside-same base a k aligned top near = grind (arith, nat_tests)
 
-  pub found_none : ((j : ℕ) → j < n → (get_or pages j no_page).base ≡ a - a % 4096 → ⊥) → None ≡ index_of (take n pages) a
-  found_none before =
-      let len = length-first in
-      sym (index-none (take n pages) a (λ j l. ap (λ p. inside p.base 4096 a) (get_or-take n pages j no_page (omega arith)) ∙ holds_not _ a (aligned j (omega arith)) (before j (omega arith))))
+-- two addresses of one page have one place in the list
+pub index_same : (ps : List Page) → Aligned ps → (a k : ℕ) → a < 2 ^ 64 → k < 4096 - a % 4096 → index_of ps (a + k) ≡ index_of ps a
+unfolding index_of
+index_same [] aligned a k top near = refl
+index_same (p ∷ ps) aligned a k top near =
+    let here = inside-same p.base a k (aligned 0 (omega arith)) top near in
+    let rest = index_same ps (λ i h. aligned (suc i) (omega arith)) a k top near in
+    ap (λ b. cond b (Some 0) (option_map suc (index_of ps (a + k)))) here ∙ ap (λ o. cond (inside p.base 4096 a) (Some 0) (option_map suc o)) rest
 
-  -- a page that is tried first is the only one
-  pub found-only : ((i j : ℕ) → clash pages n i j ≡ false) → (i : ℕ) → i < n → (get_or pages i no_page).base ≡ a - a % 4096 → Some i ≡ index_of (take n pages) a
-  found-only apart i h here = found_at i h here (λ j l e. let no = apart j i in let same = e ∙ sym here in grind (arith, nat_tests))
+abbrev pub placed : List Page → ℕ → ℕ → Place
+placed ps a i = record { offset = 4096 * i + (a - (get_or ps i no_page).base); rights = (get_or ps i no_page).rights }
+
+-- the page of a place that was found
+pub found : (ps : List Page) (a : ℕ) (p : Place) → place_for ps a ≡ Some p → (i : ℕ) × (index_of ps a ≡ Some i) × (p ≡ placed ps a i)
+found ps a p e = go (index_of ps a) refl e
+  where
+    go : (o : Option ℕ) → index_of ps a ≡ o → option_map (placed ps a) o ≡ Some p → (i : ℕ) × (index_of ps a ≡ Some i) × (p ≡ placed ps a i)
+    go None q e' = absurd (let z : ◌≡◌ {A = ℕ} 0 1 = cc in omega arith)
+    go (Some i) q e' = (i, q, cc)
+
+-- of pages that lie apart
+module _ (ps : List Page) (kept : Separate ps) (a : ℕ) (top : a < 2 ^ 64) where
+  pub index-position : index_of ps a ≡ position (at_base (a - a % 4096)) ps
+  index-position = aligned-position ps kept.aligned a top
 
   -- where no page holds a base, none has it
-  pub unfound : is_some (index_of (take n pages) a) ≡ false → a % 4096 ≡ 0 → (i : ℕ) → i < n → (get_or pages i no_page).base ≡ a → ⊥
-  unfound none even i h e =
-      let len = length-first in
-      let is : inside (get_or (take n pages) i no_page).base 4096 a ≡ true = ap (λ p. inside p.base 4096 a) (get_or-take n pages i no_page h) ∙ holds _ a top (omega arith) in
-      both_ways _ none (index-some (take n pages) a i (omega arith) is)
+  pub unfound : is_some (index_of ps a) ≡ false → a % 4096 ≡ 0 → (i : ℕ) → i < length ps → (get_or ps i no_page).base ≡ a → ⊥
+  unfound none even i h e = both_ways _ none (index-some ps a i h (holds _ a top (omega arith)))
+
+-- a place along a page from its base
+pub place_along : (ps : List Page) → Separate ps → (a b k : ℕ) (p : Place) → b % 4096 ≡ 0 → k < 4096 → b + k ≡ a → place_for ps b ≡ Some p → Some (record { offset = p.offset + k; rights = p.rights }) ≡ place_for ps a
+place_along ps kept a b k p even near sum e =
+    let i = (found ps b p e).0 in
+    let at : index_of ps b ≡ Some i = (found ps b p e).1 in
+    let is : p ≡ placed ps b i = (found ps b p e).2 in
+    let h = index-holds ps b i at in
+    let low : (get_or ps i no_page).base ≤ b = grind (arith, nat_tests) in
+    let top : b < 2 ^ 64 = grind (arith, nat_tests) in
+    let same : index_of ps (b + k) ≡ Some i = index_same ps kept.aligned b k top (omega arith) ∙ at in
+    let o : 4096 * i + (b - (get_or ps i no_page).base) + k ≡ 4096 * i + (b + k - (get_or ps i no_page).base) = omega arith in
+    ap (λ (t : Place). Some (record { offset = t.offset + k; rights = t.rights })) is ∙ ap (λ x. Some (record { offset = x; rights = (get_or ps i no_page).rights })) o ∙ sym (ap (option_map (placed ps (b + k))) same) ∙ ap (place_for ps) sum
+
+none-by : (o : Option ℕ) → is_some o ≡ false → o ≡ None
+none-by None e = refl
+none-by (Some i) e = absurd (both_ways true e refl)
+
+index-append : (ps qs : List Page) (a i : ℕ) → index_of ps a ≡ Some i → index_of (ps ++ qs) a ≡ Some i
+unfolding index_of
+index-append [] qs a i e = absurd (let z : ◌≡◌ {A = ℕ} 0 1 = cc in omega arith)
+index-append (p ∷ ps) qs a i e = go (inside p.base 4096 a) (index_of ps a) (index-append ps qs a) e
+  where
+    go : (b : Bool) (o : Option ℕ) → ((j : ℕ) → o ≡ Some j → index_of (ps ++ qs) a ≡ Some j) → cond b (Some 0) (option_map suc o) ≡ Some i → cond b (Some 0) (option_map suc (index_of (ps ++ qs) a)) ≡ Some i
+    go true o rest e' = e'
+    go false None rest e' = absurd (let z : ◌≡◌ {A = ℕ} 0 1 = cc in omega arith)
+    go false (Some j) rest e' = ap (option_map suc) (rest j refl) ∙ e'
+
+index-last : (ps : List Page) (page : Page) (a : ℕ) → inside page.base 4096 a ≡ true → index_of ps a ≡ None → index_of (ps ++ page ∷ []) a ≡ Some (length ps)
+unfolding index_of
+index-last [] page a here e = cond-true _ _ _ here
+index-last (p ∷ ps) page a here e = go (inside p.base 4096 a) (index_of ps a) (index-last ps page a here) e
+  where
+    go : (b : Bool) (o : Option ℕ) → (o ≡ None → index_of (ps ++ page ∷ []) a ≡ Some (length ps)) → cond b (Some 0) (option_map suc o) ≡ None → cond b (Some 0) (option_map suc (index_of (ps ++ page ∷ []) a)) ≡ Some (suc (length ps))
+    go true o rest e' = absurd (let z : ◌≡◌ {A = ℕ} 0 1 = cc in omega arith)
+    go false None rest e' = ap (option_map suc) (rest refl)
+    go false (Some j) rest e' = absurd (let z : ◌≡◌ {A = ℕ} 0 1 = cc in omega arith)
+
+-- one page more leaves the places of the others
+pub place-append : (ps qs : List Page) (a : ℕ) (p : Place) → place_for ps a ≡ Some p → place_for (ps ++ qs) a ≡ Some p
+place-append ps qs a p e =
+    let i = (found ps a p e).0 in
+    let at : index_of ps a ≡ Some i = (found ps a p e).1 in
+    let is : p ≡ placed ps a i = (found ps a p e).2 in
+    let h = index-holds ps a i at in
+    ap (option_map (placed (ps ++ qs) a)) (index-append ps qs a i at) ∙ ap (λ (q : Page). Some (record { offset = 4096 * i + (a - q.base); rights = q.rights })) (get_or-append ps qs no_page i h.0) ∙ ap Some (sym is)
+
+-- and has one of its own
+pub place-last : (ps : List Page) (page : Page) → page.base < 2 ^ 64 → is_some (index_of ps page.base) ≡ false → place_for (ps ++ page ∷ []) page.base ≡ Some (record { offset = 4096 * length ps; rights = page.rights })
+place-last ps page top none =
+    let here : inside page.base 4096 page.base ≡ true = grind (arith, nat_tests) in
+    let o : 4096 * length ps + (page.base - page.base) ≡ 4096 * length ps = omega arith in
+    ap (option_map (placed (ps ++ page ∷ []) page.base)) (index-last ps page page.base here (none-by (index_of ps page.base) none))
+    ∙ ap (λ (q : Page). Some (record { offset = 4096 * length ps + (page.base - q.base); rights = q.rights })) (get_or-append_seam ps page [] no_page)
+    ∙ ap (λ x. Some (record { offset = x; rights = page.rights })) o

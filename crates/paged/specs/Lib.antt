@@ -1,3 +1,4 @@
+pub mod Hints
+pub mod Kind
 pub mod Mapping
 pub mod Pages
-pub mod Tables

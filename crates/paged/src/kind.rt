@@ -1,14 +1,18 @@
 // Paged memory as a kind of memory.
-ghost use Rattle.std.specs.Prelude.{◌≡◌, ◌-◌, ◌%◌, true, nat_lt};
+ghost use Rattle.std.specs.Prelude.{◌≡◌, ◌+◌, ◌-◌, ◌%◌, ◌≤◌, nat_lt, Some};
 ghost use Rattle.memory.specs.Access.{bytes_of, has as has_right};
-ghost use Rattle.memory.specs.Meaning.{granted, loaded, put, store_answer, stored};
-ghost use Rattle.paged.specs.Pages.{paged, paged-bounded as paged_bounded};
-ghost use Rattle.paged.specs.Tables.{pages_of};
+ghost use Rattle.memory.specs.Meaning.{granted, loaded, store_answer, stored};
+ghost use Rattle.paged.specs.Kind.{meaning_of};
+ghost use Rattle.std.specs.Option.{option_map};
+ghost use Rattle.paged.specs.Pages.{Separate, offset_with, paged, paged-bounded as paged_bounded, place_for};
 
 use crate::table::PageTable;
-use memory::{MissingRight, Readable, Right, Size, Writable, covers, load_from, store_into};
+use memory::{
+    Access, MissingRight, Readable, Right, Size, Writable, covers, load_from, store_into,
+};
+use std::array;
 
-// The pages of a table over bytes of the caller.
+// The pages of a table over bytes of the caller. The table is lent, so that several memories can have the same pages.
 #[derive(Drop)]
 pub struct Paged<'a> {
     table: &'a PageTable,
@@ -16,153 +20,160 @@ pub struct Paged<'a> {
 }
 
 // Whether an access passes the end of a page.
-fn crosses(address: u64, size: Size) -> bool
-    ensures { result ≡ nat_lt (4096 - address % 4096) (bytes_of size) }
+fn crosses(access: Access) -> bool
+    ensures { result ≡ nat_lt (4096 - access.address % 4096) (bytes_of access.size) }
 {
-    4096 - address % 4096 < size.bytes()
+    4096 - access.address % 4096 < access.size.bytes()
 }
 
 impl<'a> Paged<'a> {
     // The pages of the table, each over its bytes: the first page over the first 4,096, and so on.
     pub fn new(table: &'a PageTable, bytes: &'a mut [u8]) -> Paged<'a>
-        ensures { paged (pages_of result.table.now) result.bytes.now ≡ paged (pages_of table.now) bytes.old }
+        ensures { meaning_of result ≡ paged table.now bytes.old }
     {
         Paged { table, bytes }
     }
 }
 
+// Where an option decides on a question, `let .. else` stands: with `is_some_and` or `and_then` the proof does not close.
 impl Paged<'_> {
-    // Whether the byte at the address has the right.
-    fn byte_grants(&self, right: Right, address: u64) -> bool
-        ensures { result ≡ has_right (paged (pages_of self.now.table.now) self.now.bytes.now address).rights right }
+    // Where in the caller's bytes an access lies that stays in a page, if the page has the right.
+    fn in_bytes(&self, right: Right, access: Access) -> Option<Access>
+        ensures place { option_map (λ behind. behind.address) result ≡ offset_with right (place_for self.now.table.now access.address) }
+        ensures size { (behind : Access) → result ≡ Some behind → behind.size ≡ access.size }
+        ensures separate { Separate self.now.table.now }
     {
-        let Some(place) = self.table.locate(address) else {
+        let address = self.table.locate(access.address, right)?;
+        Some(Access { address, ..access })
+    }
+
+    // Whether each byte of an access that stays in a page has the right.
+    fn grants_in_page(&self, right: Right, access: Access) -> bool
+        requires { bytes_of access.size ≤ 4096 - access.address % 4096 }
+        ensures { result ≡ granted (meaning_of self.now) right access.address (bytes_of access.size) }
+    {
+        let Some(behind) = self.in_bytes(right, access) else {
             return false;
         };
-        if place.offset >= self.bytes.len() as u64 {
-            return false;
-        }
-        place.rights.has(right)
+        covers(0, self.bytes.len(), behind)
+    }
+
+    // A store that stays in a page.
+    fn store_in_page(&mut self, access: Access, value: u64) -> Result<(), MissingRight>
+        requires { bytes_of access.size ≤ 4096 - access.address % 4096 }
+        ensures answer { result ≡ store_answer (meaning_of self.old) access.address access.size }
+        ensures after { meaning_of self.new ≡ stored (meaning_of self.old) access.address access.size value }
+    {
+        let missing = MissingRight {
+            address: access.address,
+        };
+        let behind = self.in_bytes(Right::Write, access).ok_or(missing)?;
+        store_into(0, self.bytes, behind, value).or(Err(missing))
     }
 
     // The byte at the address; 0 where there is none.
     fn byte(&self, address: u64) -> u8
-        ensures { result ≡ (paged (pages_of self.now.table.now) self.now.bytes.now address).byte }
+        ensures { result ≡ (meaning_of self.now address).byte }
     {
-        let Some(place) = self.table.locate(address) else {
+        let Some(place) = self.table.place(address) else {
             return 0;
         };
-        if place.offset >= self.bytes.len() as u64 {
-            return 0;
-        }
-        self.bytes[place.offset as usize]
+        self.bytes.get(place.offset as usize).copied().unwrap_or(0)
+    }
+
+    // Whether the byte at this offset in the access has the right.
+    fn grants_byte(&self, right: Right, access: Access, i: u64) -> bool
+        ensures { result ≡ has_right (meaning_of self.now (access.address + i)).rights right }
+    {
+        let Some(address) = access.address.checked_add(i) else {
+            return false;
+        };
+        let size = Size::One;
+        self.grants_in_page(right, Access { address, size })
     }
 
     // Whether each byte of an access that may pass the end of a page has the right.
-    fn grants_across(&self, right: Right, address: u64, size: Size) -> bool
-        ensures { result ≡ granted (paged (pages_of self.now.table.now) self.now.bytes.now) right address (bytes_of size) }
+    fn grants_across(&self, right: Right, access: Access) -> bool
+        ensures { result ≡ granted (meaning_of self.now) right access.address (bytes_of access.size) }
     {
-        for i in 0..size.bytes() {
-            let Some(at) = address.checked_add(i) else {
-                return false;
-            };
-            if !self.byte_grants(right, at) {
-                return false;
-            }
-        }
-        true
+        (0..access.size.bytes()).all(|i| self.grants_byte(right, access, i))
     }
 
     // A load that may pass the end of a page, byte by byte.
-    fn load_across(&self, address: u64, size: Size) -> Result<u64, MissingRight>
-        ensures { result ≡ loaded (paged (pages_of self.now.table.now) self.now.bytes.now) address size }
+    fn load_across(&self, access: Access) -> Result<u64, MissingRight>
+        ensures { result ≡ loaded (meaning_of self.now) access.address access.size }
     {
-        if !self.grants_across(Right::Read, address, size) {
-            return Err(MissingRight { address });
+        if !self.grants_across(Right::Read, access) {
+            return Err(MissingRight {
+                address: access.address,
+            });
         }
-        let mut word = [0; 8];
-        for i in 0..size.bytes() {
-            word[i as usize] = self.byte(address + i);
-        }
-        load_from(0, &word, 0, size)
-    }
-
-    // Puts a byte at an address that may be written.
-    fn put_byte(&mut self, address: u64, byte: u8)
-        ensures table { self.new.table.now ≡ self.old.table.now }
-        ensures after { has_right (paged (pages_of self.old.table.now) self.old.bytes.now address).rights Right.Write ≡ true → paged (pages_of self.new.table.now) self.new.bytes.now ≡ put (paged (pages_of self.old.table.now) self.old.bytes.now) address 1 byte }
-    {
-        let Some(place) = self.table.locate(address) else {
-            return;
-        };
-        let _ = store_into(0, self.bytes, place.offset, Size::One, byte as u64);
+        // All eight, whatever the size: a load from them takes those that it has.
+        let word: [u8; 8] = array::from_fn(|i| self.byte(access.address.wrapping_add(i as u64)));
+        load_from(
+            0,
+            &word,
+            Access {
+                address: 0,
+                ..access
+            },
+        )
     }
 
     // A store that may pass the end of a page, byte by byte.
-    fn store_across(&mut self, address: u64, size: Size, value: u64) -> Result<(), MissingRight>
-        ensures answer { result ≡ store_answer (paged (pages_of self.old.table.now) self.old.bytes.now) address size }
-        ensures after { paged (pages_of self.new.table.now) self.new.bytes.now ≡ stored (paged (pages_of self.old.table.now) self.old.bytes.now) address size value }
+    fn store_across(&mut self, access: Access, value: u64) -> Result<(), MissingRight>
+        ensures answer { result ≡ store_answer (meaning_of self.old) access.address access.size }
+        ensures after { meaning_of self.new ≡ stored (meaning_of self.old) access.address access.size value }
     {
-        if !self.grants_across(Right::Write, address, size) {
-            return Err(MissingRight { address });
+        if !self.grants_across(Right::Write, access) {
+            return Err(MissingRight {
+                address: access.address,
+            });
         }
         let bytes = value.to_le_bytes();
-        for i in 0..size.bytes() {
-            self.put_byte(address + i, bytes[i as usize]);
+        for (i, byte) in bytes[..access.size.bytes() as usize].iter().enumerate() {
+            let at = Access {
+                address: access.address + i as u64,
+                size: Size::One,
+            };
+            // It is stored, since each byte of the access has the right.
+            let _ = self.store_in_page(at, u64::from(*byte));
         }
         Ok(())
     }
 }
 
 impl Readable for Paged<'_> {
-    ghost meaning = { λ s. paged (pages_of s.table.now) s.bytes.now };
+    ghost meaning = { meaning_of };
 
-    ghost bounded = { λ s. paged_bounded (pages_of s.table.now) s.bytes.now };
+    ghost bounded = { λ s. paged_bounded s.table.now s.bytes.now };
 
-    fn load(&self, address: u64, size: Size) -> Result<u64, MissingRight> {
-        if crosses(address, size) {
-            return self.load_across(address, size);
+    fn load(&self, access: Access) -> Result<u64, MissingRight> {
+        if crosses(access) {
+            return self.load_across(access);
         }
-        let Some(place) = self.table.locate(address) else {
-            return Err(MissingRight { address });
+        let missing = MissingRight {
+            address: access.address,
         };
-        if !place.rights.read {
-            return Err(MissingRight { address });
-        }
-        match load_from(0, self.bytes, place.offset, size) {
-            Ok(word) => Ok(word),
-            Err(_) => Err(MissingRight { address }),
-        }
+        let behind = self.in_bytes(Right::Read, access).ok_or(missing)?;
+        load_from(0, self.bytes, behind).or(Err(missing))
     }
 
-    fn grants(&self, right: Right, address: u64, size: Size) -> bool {
-        if crosses(address, size) {
-            return self.grants_across(right, address, size);
+    fn grants(&self, right: Right, access: Access) -> bool {
+        if crosses(access) {
+            self.grants_across(right, access)
+        } else {
+            self.grants_in_page(right, access)
         }
-        let Some(place) = self.table.locate(address) else {
-            return false;
-        };
-        if !place.rights.has(right) {
-            return false;
-        }
-        covers(0, self.bytes.len(), place.offset, size)
     }
 }
 
 impl Writable for Paged<'_> {
-    fn store(&mut self, address: u64, size: Size, value: u64) -> Result<(), MissingRight> {
-        if crosses(address, size) {
-            return self.store_across(address, size, value);
-        }
-        let Some(place) = self.table.locate(address) else {
-            return Err(MissingRight { address });
-        };
-        if !place.rights.write {
-            return Err(MissingRight { address });
-        }
-        match store_into(0, self.bytes, place.offset, size, value) {
-            Ok(()) => Ok(()),
-            Err(_) => Err(MissingRight { address }),
+    fn store(&mut self, access: Access, value: u64) -> Result<(), MissingRight> {
+        if crosses(access) {
+            self.store_across(access, value)
+        } else {
+            self.store_in_page(access, value)
         }
     }
 }

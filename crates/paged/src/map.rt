@@ -1,7 +1,6 @@
 // The mapping of pages, which ends before the memory is used.
 ghost use Rattle.std.specs.Prelude.{◌≡◌, []};
 ghost use Rattle.paged.specs.Mapping.{map_answer, pages_after};
-ghost use Rattle.paged.specs.Tables.{pages_of};
 
 use crate::page::Page;
 use crate::table::PageTable;
@@ -17,7 +16,7 @@ pub struct PageMap {
 impl PageMap {
     // No page is mapped yet, and there are `room` bytes for pages.
     pub fn new(room: usize) -> PageMap
-        ensures pages { pages_of result.table ≡ [] }
+        ensures pages { result.table ≡ [] }
         ensures room { result.room ≡ room }
     {
         PageMap {
@@ -28,8 +27,8 @@ impl PageMap {
 
     // One page more, over the next 4,096 bytes.
     pub fn map(&mut self, base: u64, rights: Rights) -> Result<(), Refusal>
-        ensures answer { result ≡ map_answer (pages_of self.old.table) self.old.room base }
-        ensures pages { pages_of self.new.table ≡ pages_after result (pages_of self.old.table) (record { base = base; rights = rights }) }
+        ensures answer { result ≡ map_answer self.old.table self.old.room base }
+        ensures pages { self.new.table ≡ pages_after result self.old.table (record { base = base; rights = rights }) }
         ensures room { self.new.room ≡ self.old.room }
     {
         let room = self.room;
@@ -38,7 +37,7 @@ impl PageMap {
 
     // The table of these pages, to which none can be added.
     pub fn finish(self) -> PageTable
-        ensures { pages_of result ≡ pages_of self.table }
+        ensures { result ≡ self.table }
     {
         let PageMap { table, room: _ } = self;
         table

@@ -1,114 +1,125 @@
 // The table of pages.
-ghost use Rattle.std.specs.Prelude.{◌≡◌, ℕ, ◌-◌, ◌%◌, ◌<◌, ◌≤◌, false, [], length, get_or, take, IfSome, slice_index_or};
+ghost use Rattle.std.specs.Prelude.{◌≡◌, ◌-◌, ◌%◌, ◌<◌, [], length, IfSome, slice_index_or};
 ghost use Rattle.paged.specs.Mapping.{map_answer, pages_after};
-ghost use Rattle.paged.specs.Pages.{clash, index_of, no_page, place_for};
+ghost use Rattle.paged.specs.Pages.{Separate, index_of, no_page, offset_with, place_for};
 
-use crate::page::{Page, Place};
-use memory::{Refusal, Rights};
+use crate::page::{Hint, Page, Place};
+use arrayvec::ArrayVec;
+use memory::{Refusal, Right, Rights};
+use std::marker::Model;
 
-// The pages in the order in which they were mapped: the first `count` of the array.
+// A hint that is not set: no page begins at 1. With hints of type Option<Hint> a store takes about a tenth longer.
+const NO_HINT: Hint = Hint {
+    base: 1,
+    place: Place {
+        offset: 0,
+        rights: Rights {
+            read: false,
+            write: false,
+            speculative: false,
+        },
+    },
+};
+
+// The pages in the order in which they were mapped. Contracts see their list.
 #[derive(Drop)]
 pub struct PageTable {
-    pages: [Page; 64],
-    count: usize,
-    // for each page number modulo 64, the page to try first
-    hints: [u8; 64],
-    ghost few: { count ≤ 64 },
-    ghost whole: { length pages ≡ 64 },
-    ghost aligned: { (i : ℕ) → i < count → (get_or pages i no_page).base % 4096 ≡ 0 },
-    ghost apart: { (i j : ℕ) → clash pages count i j ≡ false },
+    pages: ArrayVec<Page, 64>,
+    // The page to try first, by `hint_index`. An array, since a map would need a heap. A hint holds the place and the rights too, so
+    // that one look finds both: without them a load takes about half as long again.
+    hints: [Hint; 64],
 }
 
-const NO_RIGHTS: Rights = Rights {
-    read: false,
-    write: false,
-    speculative: false,
-};
+impl Model for PageTable {
+    ghost use Rattle.std.specs.Prelude.{List};
+    ghost use Rattle.paged.specs.declared.page.Page.{Page};
+    ghost use Rattle.paged.specs.Hints.{Kept};
 
-const NO_PAGE: Page = Page {
-    base: 0,
-    rights: NO_RIGHTS,
-};
+    ghost Value = { List Page };
+
+    ghost view = { λ t. t.pages.items };
+
+    ghost invariant = { λ t. Kept t.pages.items t.hints };
+}
+
+// The page's number modulo 64.
+fn hint_index(base: u64) -> usize
+    ensures { result < 64 }
+{
+    (base / 4096 % 64) as usize
+}
 
 impl PageTable {
     // A table with no page.
     pub(crate) fn new() -> PageTable
-        ensures { take result.count result.pages ≡ [] }
+        ensures { result ≡ [] }
     {
         PageTable {
-            pages: [NO_PAGE; 64],
-            count: 0,
-            hints: [0; 64],
+            pages: ArrayVec::new(),
+            hints: [NO_HINT; 64],
         }
-    }
-
-    // The page at a place.
-    pub(crate) fn page(&self, i: usize) -> Page
-        requires { i < self.now.count }
-        ensures listed { result ≡ slice_index_or (take self.now.count self.now.pages) i no_page }
-        ensures value { result ≡ slice_index_or self.now.pages i no_page }
-    {
-        self.pages[i]
     }
 
     // One page more, where `room` bytes are there for all pages.
     pub(crate) fn add(&mut self, page: Page, room: usize) -> Result<(), Refusal>
-        ensures answer { result ≡ map_answer (take self.old.count self.old.pages) room page.base }
-        ensures pages { take self.new.count self.new.pages ≡ pages_after result (take self.old.count self.old.pages) page }
+        ensures answer { result ≡ map_answer self.old room page.base }
+        ensures pages { self.new ≡ pages_after result self.old page }
     {
-        let count = self.count;
-        if count >= 64 {
+        let count = self.pages.len();
+        if count == 64 || room < 4096 * count + 4096 {
             return Err(Refusal::NoRoom);
         }
-        if room < 4096 * count + 4096 {
-            return Err(Refusal::NoRoom);
-        }
-        if page.base % 4096 != 0 {
+        if page.base % 4096 != 0 || self.find(page.base).is_some() {
             return Err(Refusal::BadBase);
         }
-        if self.find(page.base).is_some() {
-            return Err(Refusal::BadBase);
-        }
-        self.pages[count] = page;
-        self.count = count + 1;
-        self.hints[(page.base / 4096 % 64) as usize] = count as u8;
+        self.pages.push(page);
+        let place = Place {
+            offset: 4096 * count as u64,
+            rights: page.rights,
+        };
+        self.hints[hint_index(page.base)] = Hint {
+            base: page.base,
+            place,
+        };
         Ok(())
     }
 
-    // The place of the page that holds the address.
-    pub(crate) fn find(&self, address: u64) -> Option<usize>
-        ensures place { result ≡ index_of (take self.now.count self.now.pages) address }
-        ensures holds { IfSome result (λ i. (i < self.now.count) × ((get_or self.now.pages i no_page).base ≡ address - address % 4096)) }
+    // The place in the list of the page that holds the address.
+    fn find(&self, address: u64) -> Option<usize>
+        ensures place { result ≡ index_of self.now address }
+        ensures holds { IfSome result (λ i. (i < length self.now) × ((slice_index_or self.now i no_page).base ≡ address - address % 4096)) }
     {
         let base = address - address % 4096;
-        let hint = self.hints[(base / 4096 % 64) as usize] as usize;
-        if hint < self.count {
-            if self.pages[hint].base == base {
-                return Some(hint);
-            }
-        }
-        for i in 0..self.count {
-            if self.pages[i].base == base {
-                return Some(i);
-            }
-        }
-        None
+        self.pages.iter().position(|page| page.base == base)
     }
 
     // Where the address lies.
-    pub(crate) fn locate(&self, address: u64) -> Option<Place>
-        ensures { result ≡ place_for (take self.now.count self.now.pages) address }
+    pub(crate) fn place(&self, address: u64) -> Option<Place>
+        ensures { result ≡ place_for self.now address }
     {
-        match self.find(address) {
-            Some(i) => {
-                let page = self.page(i);
-                let offset = 4096 * i as u64 + (address - page.base);
-                Some(Place {
-                    offset,
-                    rights: page.rights,
-                })
-            }
-            None => None,
+        let i = self.find(address)?;
+        let page = self.pages[i];
+        Some(Place {
+            offset: 4096 * i as u64 + (address - page.base),
+            rights: page.rights,
+        })
+    }
+
+    // Where in the caller's bytes the address lies, if its page has the right.
+    pub(crate) fn locate(&self, address: u64, right: Right) -> Option<u64>
+        ensures place { result ≡ offset_with right (place_for self.now address) }
+        ensures separate { Separate self.now }
+    {
+        let offset = address % 4096;
+        let hint = self.hints[hint_index(address - offset)];
+        if hint.base == address - offset {
+            return hint
+                .place
+                .rights
+                .has(right)
+                .then_some(hint.place.offset + offset);
         }
+        let place = self.place(address)?;
+        place.rights.has(right).then_some(place.offset)
     }
 }

@@ -1,7 +1,7 @@
 -- What ranges allow, and what a memory under them grants.
-use Rattle.std.proofs.Common.{◌≡◌, ℕ, ◌+◌, ◌-◌, ◌<◌, ◌≤◌, Bool, true, false, not, ◌&&◌, ◌||◌, ltb, leb, List, [], ◌∷◌, length, get_or, drop, Decides, sym, refl, ap, ◌∙◌, arith}
+use Rattle.std.proofs.Common.{◌≡◌, ℕ, ◌+◌, ◌-◌, ◌<◌, ◌≤◌, Bool, true, false, not, ◌&&◌, ◌||◌, ltb, leb, List, [], ◌∷◌, Decides, sym, refl, ap, ◌∙◌, arith}
 use mathlib.Core.Path.{fun_ext}
-use Rattle.std.proofs.lemmas.List.{at_drop_more, at_drop_all}
+use Rattle.std.specs.List.{list_all}
 use Rattle.std.proofs.lemmas.Bool.Decides.{Decides-and, Decides-like, Decides-not, same_from_decides, nat_tests}
 use Rattle.memory.specs.declared.access.Right.{Right}
 use Rattle.memory.specs.declared.access.Right.TheVariants.{Read, Write, Speculative}
@@ -37,8 +37,8 @@ has_left ranges a rights Write = refl
 has_left ranges a rights Speculative = refl
 
 -- an access has a right if the memory grants it and the ranges allow it
-pub granted-protected : (ranges : List Range) (m : Meaning) (right : Right) (a n : ℕ) → granted (protected ranges m) right a n ≡ (granted m right a n && allowed ranges right a n)
-granted-protected ranges m right a n =
+pub granted_protected : (ranges : List Range) (m : Meaning) (right : Right) (a n : ℕ) → granted (protected ranges m) right a n ≡ (granted m right a n && allowed ranges right a n)
+granted_protected ranges m right a n =
     ap (λ test. each test a n) (fun_ext (λ x. has_left ranges x (m x).rights right)) ∙ each_both (λ x. has (m x).rights right) (λ x. not (taken ranges right x)) a n
 
 -- no ranges allow everything
@@ -90,9 +90,9 @@ or-false true = refl
 or-false false = refl
 
 -- a range allows an access if it does not take the right, or holds no address of it
-pub allowed-one : (range : Range) (right : Right) (a n : ℕ) → allowed (range ∷ []) right a n ≡ (not (has range.taken right) || ltb range.last range.first || ltb range.last a || leb n (range.first - a))
+pub allowed_one : (range : Range) (right : Right) (a n : ℕ) → allowed (range ∷ []) right a n ≡ (not (has range.taken right) || ltb range.last range.first || ltb range.last a || leb n (range.first - a))
 unfolding taken
-allowed-one range right a n =
+allowed_one range right a n =
     ap (λ test. each test a n) (fun_ext (λ x. ap not (or-false (has range.taken right && holds range x)))) ∙ spared (has range.taken right) range a n
 
 -- one more range
@@ -103,17 +103,8 @@ allowed-more range ranges right a n =
     let alone : each (λ x. not (one x)) a n ≡ allowed (range ∷ []) right a n = ap (λ test. each test a n) (fun_ext (λ x. sym (ap not (or-false (one x))))) in
     ap (λ test. each test a n) (fun_ext (λ x. not-or (one x) (taken ranges right x))) ∙ each_both (λ x. not (one x)) (λ x. not (taken ranges right x)) a n ∙ ap (λ b. b && allowed ranges right a n) alone
 
--- a turn of a loop over ranges: what the one at i allows, and those after it
-module _ (ranges : List Range) (right : Right) (a n : ℕ) where
-  step : (i : ℕ) (d : Range) (t : Bool) → i < length ranges → t ≡ allowed (get_or ranges i d ∷ []) right a n → allowed (drop i ranges) right a n ≡ (t && allowed (drop (i + 1) ranges) right a n)
-  step i d t h e =
-      at_drop_more (λ rs. allowed rs right a n) ranges i d h ∙ allowed-more (get_or ranges i d) _ right a n ∙ ap (λ b. b && allowed (drop (i + 1) ranges) right a n) (sym e)
-
-  pub next-allowed : (i : ℕ) (d : Range) → i < length ranges → true ≡ allowed (get_or ranges i d ∷ []) right a n → allowed (drop i ranges) right a n ≡ allowed ranges right a n → allowed (drop (i + 1) ranges) right a n ≡ allowed ranges right a n
-  next-allowed i d h e inv = sym (step i d true h e) ∙ inv
-
-  pub not-allowed : (i : ℕ) (d : Range) (all : List Range) (m : ℕ) → ranges ≡ all → n ≡ m → i < length ranges → false ≡ allowed (get_or ranges i d ∷ []) right a n → allowed (drop i ranges) right a n ≡ allowed ranges right a n → false ≡ allowed all right a m
-  not-allowed i d all m r k h e inv = sym (step i d false h e) ∙ inv ∙ ap (λ l. allowed l right a n) r ∙ ap (allowed all right a) k
-
-  pub all-allowed : (i : ℕ) (all : List Range) (m : ℕ) → ranges ≡ all → n ≡ m → length ranges ≤ i → allowed (drop i ranges) right a n ≡ allowed ranges right a n → true ≡ allowed all right a m
-  all-allowed i all m r k h inv = sym (at_drop_all (λ rs. allowed rs right a n) ranges i h ∙ allowed-none right a n) ∙ inv ∙ ap (λ l. allowed l right a n) r ∙ ap (allowed all right a) k
+-- ranges allow an access if each of them does
+pub allowed-each : (ranges : List Range) (right : Right) (a n : ℕ) → allowed ranges right a n ≡ list_all (λ range. allowed (range ∷ []) right a n) ranges
+allowed-each [] right a n = allowed-none right a n
+allowed-each (range ∷ ranges) right a n =
+    allowed-more range ranges right a n ∙ ap (λ b. allowed (range ∷ []) right a n && b) (allowed-each ranges right a n)

@@ -1,3 +1,2 @@
 pub mod Allowing
-pub mod Collecting
 pub mod Under

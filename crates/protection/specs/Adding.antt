@@ -1,13 +1,8 @@
 -- Ranges that are collected, up to 16.
-use Rattle.std.specs.Prelude.{cond, List, [], ◌∷◌, ◌++◌, length, take, Ok, Err, Result, nat_lt}
+use Rattle.std.specs.Prelude.{cond, List, [], ◌∷◌, ◌++◌, length, Ok, Err, Result, nat_lt}
 use Rattle.memory.specs.declared.refusal.Refusal.{Refusal}
 use Rattle.memory.specs.declared.refusal.Refusal.TheVariants.{NoRoom}
 use Rattle.protection.specs.declared.range.Range.{Range}
-use Rattle.protection.specs.declared.ranges.Ranges.{Ranges}
-
--- the ranges, in the order in which they were added
-abbrev pub ranges_of : Ranges → List Range
-ranges_of s = take s.count s.items
 
 -- a range is refused where there are 16 already
 abbrev pub add_answer : List Range → Result (Unit {0}) Refusal

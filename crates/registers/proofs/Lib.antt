@@ -1,4 +1,3 @@
 pub mod Fill
 pub mod Distinct
 pub mod PredicateWords
-pub mod Rings

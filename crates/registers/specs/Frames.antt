@@ -11,6 +11,7 @@ pub record Place : Type 0 where
   pub marker : Marker
   pub base : ℕ
 
+-- the numbers of a `Frame`, as `marker_of` has those of a marker
 abbrev pub frame_of : Frame → Place
 frame_of f = record { marker = marker_of f.marker; base = f.base }
 

@@ -10,6 +10,7 @@ pub record Marker : Type 0 where
   pub fr : ℕ
   pub pr : ℕ
 
+-- the numbers of a `FrameMarker`, for clauses on the whole of it; others read its public fields, which a model would hide
 abbrev pub marker_of : FrameMarker → Marker
 marker_of m = record { sof = m.sof; sol = m.sol; sor = m.sor; gr = m.rrb_gr; fr = m.rrb_fr; pr = m.rrb_pr }
 

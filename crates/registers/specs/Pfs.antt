@@ -11,6 +11,7 @@ pub record State : Type 0 where
   pub ec : ℕ
   pub level : ℕ
 
+-- the numbers of a `PreviousState`, as `marker_of` has those of a marker
 abbrev pub state_of : PreviousState → State
 state_of s = record { marker = marker_of s.marker; ec = s.ec; level = s.level }
 

@@ -4,7 +4,7 @@ ghost use Rattle.std.specs.Prelude.{◌+◌, ◌≤◌};
 use crate::marker::FrameMarker;
 
 // The frame has the cells from `base` on of the 4,096 stacked ones.
-#[derive(Clone, Copy)]
+#[derive(Clone, Copy, PartialEq, Eq, Debug)]
 pub struct Frame {
     pub marker: FrameMarker,
     pub base: u16,

@@ -7,7 +7,7 @@ use crate::frame::Frame;
 use crate::marker::FrameMarker;
 
 // Why a frame does not fit the stacked cells.
-#[derive(Clone, Copy)]
+#[derive(Clone, Copy, PartialEq, Eq, Debug)]
 pub enum Misfit {
     // It would start below the first of them.
     Empty,
@@ -21,10 +21,7 @@ impl Frame {
         ensures test { is_some result ≡ fits base marker.sof }
         ensures value { IfSome result (λ f. frame_of f ≡ record { marker = marker_of marker; base = base }) }
     {
-        if base > 4096 {
-            return None;
-        }
-        if base + marker.sof as u16 > 4096 {
+        if base.checked_add(marker.sof as u16)? > 4096 {
             return None;
         }
         Some(Frame { marker, base })
@@ -44,12 +41,7 @@ impl Frame {
         ensures { answer_of result ≡ returned_frame (frame_of self) (marker_of marker) }
     {
         let sol = marker.sol as u16;
-        if self.base < sol {
-            return Err(Misfit::Empty);
-        }
-        match Frame::new(marker, self.base - sol) {
-            Some(frame) => Ok(frame),
-            None => Err(Misfit::Full),
-        }
+        let base = self.base.checked_sub(sol).ok_or(Misfit::Empty)?;
+        Frame::new(marker, base).ok_or(Misfit::Full)
     }
 }

@@ -1,5 +1,6 @@
 // The kinds of banks.
-ghost use Rattle.std.specs.Prelude.{◌≡◌, ℕ, ◌<◌, true, false};
+ghost use Rattle.std.specs.Prelude.{ℕ, ◌<◌, true, false};
+ghost use Rattle.std.proofs.Common.{lit<};
 
 // A kind of bank: its cell, and the count of fixed registers, which are never renamed.
 pub trait Kind {
@@ -7,30 +8,25 @@ pub trait Kind {
 
     const FIXED: u16;
 
-    ghost fixed: { ℕ };
+    ghost FIXED: { ℕ };
 
-    // `FIXED`, with its meaning.
-    fn fixed_registers() -> u16
-        ensures value { result ≡ fixed }
-        ensures few { result < 1000 };
+    ghost few: { FIXED < 1000 };
 }
 
 // A kind of bank whose cells have a blank, which a register reads as where there is no cell.
 pub trait BlankKind: Kind {
-    ghost blank: { Self.Cell };
+    const BLANK: Self::Cell;
 
     // What register 0 reads as.
-    ghost first: { Self.Cell };
+    const REGISTER_ZERO: Self::Cell;
 
-    fn blank_cell() -> Self::Cell
-        ensures { result ≡ blank };
+    ghost BLANK: { Self.Cell };
 
-    fn register_zero() -> Self::Cell
-        ensures { result ≡ first };
+    ghost REGISTER_ZERO: { Self.Cell };
 }
 
 // A general cell: a value, and the NaT bit that says that it is not a thing.
-#[derive(Clone, Copy)]
+#[derive(Clone, Copy, PartialEq, Eq, Debug, Default)]
 pub struct General {
     pub value: u64,
     pub nat: bool,
@@ -44,31 +40,26 @@ impl Kind for Generals {
 
     const FIXED: u16 = 32;
 
-    ghost fixed = { 32 };
+    ghost FIXED = { 32 };
 
-    fn fixed_registers() -> u16 {
-        Self::FIXED
-    }
+    ghost few = { lit< tt };
 }
 
 impl BlankKind for Generals {
-    ghost blank = { record { value = 0; nat = false } };
+    const BLANK: General = General {
+        value: 0,
+        nat: false,
+    };
 
-    ghost first = { record { value = 0; nat = false } };
+    // Written out: the value of a constant cannot name `Self::BLANK`.
+    const REGISTER_ZERO: General = General {
+        value: 0,
+        nat: false,
+    };
 
-    fn blank_cell() -> General {
-        General {
-            value: 0,
-            nat: false,
-        }
-    }
+    ghost BLANK = { record { value = 0; nat = false } };
 
-    fn register_zero() -> General {
-        General {
-            value: 0,
-            nat: false,
-        }
-    }
+    ghost REGISTER_ZERO = { record { value = 0; nat = false } };
 }
 
 // The bank of predicates.
@@ -79,23 +70,17 @@ impl Kind for Predicates {
 
     const FIXED: u16 = 16;
 
-    ghost fixed = { 16 };
+    ghost FIXED = { 16 };
 
-    fn fixed_registers() -> u16 {
-        Self::FIXED
-    }
+    ghost few = { lit< tt };
 }
 
 impl BlankKind for Predicates {
-    ghost blank = { false };
+    const BLANK: bool = false;
 
-    ghost first = { true };
+    const REGISTER_ZERO: bool = true;
 
-    fn blank_cell() -> bool {
-        false
-    }
+    ghost BLANK = { false };
 
-    fn register_zero() -> bool {
-        true
-    }
+    ghost REGISTER_ZERO = { true };
 }

@@ -18,7 +18,7 @@ impl FrameMarker {
             + ((self.rrb_pr as u64) << 32)
     }
 
-    // The marker of the low 38 bits; none where they break the rule.
+    // The marker of the low 38 bits, whatever stands above them; none where they break the rule. No conversion, since it leaves bits out.
     pub fn unpack(bits: u64) -> Option<FrameMarker>
         ensures test { is_some result ≡ sound (unpacked bits) }
         ensures value { IfSome result (λ m. marker_of m ≡ unpacked bits) }

@@ -15,7 +15,7 @@ mod predicates;
 mod previous;
 mod window;
 
-pub use bank::{blank_cells, cell, name, read, set_cell, write};
+pub use bank::{blank_cells, cell, set_cell};
 pub use examples::examples_hold;
 pub use frame::Frame;
 pub use frames::Misfit;

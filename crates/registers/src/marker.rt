@@ -3,7 +3,7 @@ ghost use Rattle.registers.specs.Rule.{Bases, Sizes};
 
 // The size of the frame, of its locals, and of its rotating part in eights, and the rename bases of the general, floating and
 // predicate registers.
-#[derive(Clone, Copy)]
+#[derive(Clone, Copy, PartialEq, Eq, Debug)]
 pub struct FrameMarker {
     pub sof: u8,
     pub sol: u8,

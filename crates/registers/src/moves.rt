@@ -14,10 +14,8 @@ fn one_back(size: u8, at: u8) -> u8
 {
     if at > 0 {
         at - 1
-    } else if size > 0 {
-        size - 1
     } else {
-        0
+        size.saturating_sub(1)
     }
 }
 
@@ -27,6 +25,7 @@ impl FrameMarker {
         requires { Bases self.sor rrb_gr rrb_fr rrb_pr }
         ensures { marker_of result ≡ renamed_marker (marker_of self) rrb_gr rrb_fr rrb_pr }
     {
+        // Each field by name: `..self` is not supported for a struct with ghost fields.
         FrameMarker {
             sof: self.sof,
             sol: self.sol,

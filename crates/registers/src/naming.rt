@@ -3,7 +3,6 @@ ghost use Rattle.std.specs.Prelude.{◌≡◌, ◌*◌};
 ghost use Rattle.registers.specs.Markers.{marker_of};
 ghost use Rattle.registers.specs.Names.{general_cell_of, predicate_cell_of};
 
-use crate::bank::name;
 use crate::frame::Frame;
 use crate::kind::{Generals, Predicates};
 use crate::marker::FrameMarker;
@@ -30,7 +29,7 @@ impl Frame {
     pub fn general_cell(self, register: u16) -> Option<u16>
         ensures { result ≡ general_cell_of (marker_of self.marker) self.base register }
     {
-        name::<Generals>(self.window(), register)
+        self.window().name::<Generals>(register)
     }
 }
 
@@ -54,6 +53,6 @@ impl FrameMarker {
     pub fn predicate_cell(self, predicate: u16) -> Option<u16>
         ensures { result ≡ predicate_cell_of (marker_of self) predicate }
     {
-        name::<Predicates>(self.predicate_window(), predicate)
+        self.predicate_window().name::<Predicates>(predicate)
     }
 }

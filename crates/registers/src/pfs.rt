@@ -16,7 +16,8 @@ impl PreviousState {
         self.marker.pack() + ((self.ec as u64) << 52) + ((self.level as u64) << 62)
     }
 
-    // The parts of a word; none where a reserved bit is set or the marker breaks its rule.
+    // The parts of a word; none where a reserved bit is set or the marker breaks its rule. Named as the marker's `unpack` is, which is no
+    // conversion, since it leaves bits out.
     pub fn unpack(word: u64) -> Option<PreviousState>
         ensures test { is_some result ≡ (reserved_are_clear word && sound (unpacked word)) }
         ensures value { IfSome result (λ s. state_of s ≡ unpacked_state word) }
@@ -25,9 +26,7 @@ impl PreviousState {
         if !reserved_clear(word) {
             return None;
         }
-        let Some(marker) = FrameMarker::unpack(word) else {
-            return None;
-        };
+        let marker = FrameMarker::unpack(word)?;
         let ec = ((word >> 52) % 64) as u8;
         let level = (word >> 62) as u8;
         Some(PreviousState { marker, ec, level })
@@ -38,10 +37,7 @@ impl PreviousState {
 pub fn reserved_clear(word: u64) -> bool
     ensures { result ≡ reserved_are_clear word }
 {
-    if (word >> 38) % 0x4000 != 0 {
-        return false;
-    }
-    (word >> 58) % 16 == 0
+    (word >> 38) % 0x4000 == 0 && (word >> 58) % 16 == 0
 }
 
 // The word without its reserved bits.

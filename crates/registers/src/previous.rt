@@ -4,7 +4,7 @@ ghost use Rattle.std.specs.Prelude.{◌<◌};
 use crate::marker::FrameMarker;
 
 // What a call saves: the caller's marker, the epilog count (six bits) and the privilege level (two bits).
-#[derive(Clone, Copy)]
+#[derive(Clone, Copy, PartialEq, Eq, Debug)]
 pub struct PreviousState {
     pub marker: FrameMarker,
     pub ec: u8,

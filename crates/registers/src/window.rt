@@ -2,7 +2,7 @@
 ghost use Rattle.std.specs.Prelude.{◌+◌, ◌-◌, ◌≤◌};
 
 // `size` registers, whose cells begin at `base` behind those of the fixed registers; the first `rotating` of them are turned by `rename`.
-#[derive(Clone, Copy)]
+#[derive(Clone, Copy, PartialEq, Eq, Debug)]
 pub struct Window {
     pub base: u16,
     pub size: u16,

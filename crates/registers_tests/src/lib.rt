@@ -4,10 +4,9 @@
 #[cfg(test)]
 mod tests {
     use registers::{
-        Frame, FrameMarker, General, PreviousState, blank_cells, predicate_word, read,
-        reserved_clear, set_predicate_word, without_reserved, write,
+        Frame, FrameMarker, General, Generals, Predicates, PreviousState, blank_cells,
+        predicate_word, reserved_clear, set_predicate_word, without_reserved,
     };
-    use std::test::Fail;
 
     // The bits of a marker, of six numbers.
     fn bits(sof: u64, sol: u64, sor: u64, gr: u64, fr: u64, pr: u64) -> u64 {
@@ -19,17 +18,19 @@ mod tests {
         Frame::new(FrameMarker::unpack(marker)?, base)
     }
 
+    // The bits of the marker, unpacked and packed again.
+    fn repacked(marker: u64) -> Option<u64> {
+        FrameMarker::unpack(marker).map(FrameMarker::pack)
+    }
+
     // The bits of the marker after one rotation.
     fn rotated(marker: u64) -> Option<u64> {
-        Some(FrameMarker::unpack(marker)?.rotated().pack())
+        FrameMarker::unpack(marker).map(|m| m.rotated().pack())
     }
 
-    fn repacked(marker: u64) -> Option<u64> {
-        Some(FrameMarker::unpack(marker)?.pack())
-    }
-
+    // The word of a previous function state, unpacked and packed again.
     fn repacked_state(word: u64) -> Option<u64> {
-        Some(PreviousState::unpack(word)?.pack())
+        PreviousState::unpack(word).map(PreviousState::pack)
     }
 
     #[test]
@@ -91,8 +92,7 @@ mod tests {
     fn base_after(base: u16, sol: u64, sof: u64) -> Option<u16> {
         let here = frame(bits(0, 0, 0, 0, 0, 0), base)?;
         let marker = FrameMarker::unpack(bits(sof, sol, 0, 0, 0, 0))?;
-        let there = here.returned(marker).ok()?;
-        Some(there.base)
+        here.returned(marker).ok().map(|there| there.base)
     }
 
     #[test]
@@ -109,69 +109,39 @@ mod tests {
 
     // Predicate 63 is cell 16 where the rename base is 1.
     #[test]
-    fn predicates_by_name_and_by_cell(rt: HostRuntime) -> Result<(), Fail> {
-        let Some(marker) = FrameMarker::unpack(bits(0, 0, 0, 0, 0, 1)) else {
-            assert!(rt; false);
-            return Ok(());
-        };
+    fn predicates_by_name_and_by_cell(rt: HostRuntime) {
+        let marker = FrameMarker::unpack(bits(0, 0, 0, 0, 0, 1)).expect(&rt, "a marker");
         let window = marker.predicate_window();
         let mut cells = [false; 64];
-        write::<registers::Predicates>(&mut cells, window, 63, true);
-        write::<registers::Predicates>(&mut cells, window, 0, false);
+        window.write::<Predicates>(&mut cells, 63, true);
+        window.write::<Predicates>(&mut cells, 0, false);
         assert_eq!(rt; predicate_word(&cells), 0x1_0001);
-        assert!(rt; read::<registers::Predicates>(&cells, window, 63));
+        assert!(rt; window.read::<Predicates>(&cells, 63));
         set_predicate_word(&mut cells, 0x8000_0000_0000_0000, 0x8000_0000_0001_0001);
         assert_eq!(rt; predicate_word(&cells), 0x8000_0000_0000_0001);
-        assert!(rt; read::<registers::Predicates>(&cells, window, 62));
-        Ok(())
+        assert!(rt; window.read::<Predicates>(&cells, 62));
     }
 
     // In a frame of nine registers at base 1, eight of them rotating by 7, r33 is stacked cell 1.
     #[test]
-    fn generals_by_name(rt: HostRuntime) -> Result<(), Fail> {
-        let Some(here) = frame(bits(9, 0, 1, 7, 0, 0), 1) else {
-            assert!(rt; false);
-            return Ok(());
-        };
+    fn generals_by_name(rt: HostRuntime) {
+        let here = frame(bits(9, 0, 1, 7, 0, 0), 1).expect(&rt, "a frame");
         let window = here.window();
-        let mut cells = [General {
-            value: 0,
-            nat: false,
-        }; 42];
-        write::<registers::Generals>(
-            &mut cells,
-            window,
-            33,
-            General {
-                value: 5,
-                nat: true,
-            },
-        );
-        assert_eq!(rt; cells[33].value, 5);
-        assert!(rt; read::<registers::Generals>(&cells, window, 33).nat);
-        write::<registers::Generals>(
-            &mut cells,
-            window,
-            0,
-            General {
-                value: 5,
-                nat: true,
-            },
-        );
-        write::<registers::Generals>(
-            &mut cells,
-            window,
-            41,
-            General {
-                value: 5,
-                nat: true,
-            },
-        );
-        assert_eq!(rt; read::<registers::Generals>(&cells, window, 0).value, 0);
-        assert_eq!(rt; read::<registers::Generals>(&cells, window, 41).value, 0);
-        assert_eq!(rt; cells[41].value, 0);
-        blank_cells::<registers::Generals>(&mut cells, 33, 1);
-        assert_eq!(rt; read::<registers::Generals>(&cells, window, 33).value, 0);
-        Ok(())
+        let blank = General::default();
+        let five = General {
+            value: 5,
+            nat: true,
+        };
+        let mut cells = [blank; 42];
+        window.write::<Generals>(&mut cells, 33, five);
+        assert_eq!(rt; cells[33], five);
+        assert_eq!(rt; window.read::<Generals>(&cells, 33), five);
+        window.write::<Generals>(&mut cells, 0, five);
+        window.write::<Generals>(&mut cells, 41, five);
+        assert_eq!(rt; window.read::<Generals>(&cells, 0), blank);
+        assert_eq!(rt; window.read::<Generals>(&cells, 41), blank);
+        assert_eq!(rt; cells[41], blank);
+        blank_cells::<Generals>(&mut cells, 33, 1);
+        assert_eq!(rt; window.read::<Generals>(&cells, 33), blank);
     }
 }

@@ -13,4 +13,4 @@ pub returns : goal.returns
 returns c =
     let e = sym c.covers.ensures.value ∙ c.if-not-covers.false in
     let i = c.covers.ensures.ends c.if-not-covers.false in
-    record { answer = sym (cond-true _ _ _ e); after = λ rights. laid-put rights c.args.base c.args.bytes.now _ c.args.address (bytes_of c.args.size) c.args.value (omega arith) i.0 i.1 i.2 c.put_at.ensures ∙ sym (cond-true _ _ _ e) }
+    record { answer = sym (cond-true _ _ _ e); after = λ rights. laid-put rights c.args.base c.args.bytes.now _ c.args.access.address (bytes_of c.args.access.size) c.args.value (omega arith) i.0 i.1 i.2 c.put_at.ensures ∙ sym (cond-true _ _ _ e) }

@@ -1,18 +1,13 @@
-use Rattle.std.proofs.Common.{◌≡◌, ◌+◌, get_or, set, ap, ◌∙◌, arith}
-use Rattle.registers.specs.Banks.{filled}
-use Rattle.registers.proofs.Fill.{filled_none, filled_more, get_or-filled}
+use Rattle.std.proofs.Common.{◌≡◌, ◌-◌, length, arith, rules}
+use Rattle.registers.proofs.Fill.{get_or-part, whole-filled}
 use Rattle.registers.proofs.bank.blank_cells.Goals as goal
 
-pub loop-i-init : goal.loop-i-init
-loop-i-init g c = filled_none c.args.from g.K.BlankKind.blank c.args.cells.now
+pub returns-clause-each : goal.returns-clause-each
+returns-clause-each g c =
+    let l : length c.loop-cell.cell-items ≡ c.min-end.result - c.min-start.result = search rules in
+    get_or-part c.args.from g.K.BlankKind.BLANK c.args.cells.now c.args.count c.min-start.result c.min-end.result c.loop-cell.cell-items (search rules) (search rules) l
+    (λ k h. c.loop-cell.invariant k (omega arith))
 
-pub loop-i-preserved : goal.loop-i-preserved
-loop-i-preserved g c =
-    filled_more c.args.from g.K.BlankKind.blank c.args.cells.now c.loop-i.i c.loop-i.cells _ c.loop-i.invariant
-    (c.put.ensures ∙ ap (set c.loop-i.cells (c.args.from + c.loop-i.i)) c.blank_cell.ensures)
-
-pub returns : goal.returns
-returns g c =
-    let e : c.loop-i.i ≡ c.args.count = omega arith in
-    let w = c.loop-i.invariant ∙ ap (λ n. filled c.args.from n g.K.BlankKind.blank c.args.cells.now) e in
-    record { whole = w; each = λ k. ap (λ xs. get_or xs k g.K.BlankKind.blank) w ∙ get_or-filled c.args.from g.K.BlankKind.blank c.args.cells.now c.args.count k }
+pub returns-clause-whole : goal.returns-clause-whole
+returns-clause-whole g c =
+    whole-filled c.args.from g.K.BlankKind.BLANK c.args.cells.now c.args.count _ (search rules) (returns-clause-each g c)

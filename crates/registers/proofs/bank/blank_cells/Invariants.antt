@@ -1,7 +1,6 @@
-use Rattle.std.proofs.Common.{◌≡◌}
-use Rattle.registers.specs.Banks.{filled}
+use Rattle.std.proofs.Common.{◌≡◌, ℕ, ◌<◌, get_or}
 use Rattle.registers.proofs.bank.blank_cells.Given as goal
 
 -- the cells so far are blank
-abbrev pub invariant-loop-i : goal.invariant-loop-i
-invariant-loop-i g l = l.cells ≡ filled l.from l.i g.K.BlankKind.blank l.initial.cells
+abbrev pub invariant-loop-cell : goal.invariant-loop-cell
+invariant-loop-cell g l = (k : ℕ) → k < l.cell-index → get_or l.cell-items k g.K.BlankKind.BLANK ≡ g.K.BlankKind.BLANK

@@ -1,7 +1,10 @@
-use Rattle.std.proofs.Common.{◌≡◌, ◌-◌}
-use Rattle.registers.specs.Predicates.{masked_from}
+use Rattle.std.proofs.Common.{◌≡◌, ℕ, ◌<◌, ◌≤◌, false, cond, ◌&&◌, eqb, ltb, get_or}
+use Rattle.integer.specs.Words.{bit}
 use Rattle.registers.proofs.predicates.set_predicate_word.Given as goal
 
--- the cells so far are set
+-- the cells so far are set, and the others are as they were
 abbrev pub invariant-loop-i : goal.invariant-loop-i
-invariant-loop-i l = l.cells ≡ masked_from l.word l.mask (l.i - 1) l.initial.cells
+invariant-loop-i l = record {
+  below : (k : ℕ) → k < l.i → get_or l.cells k false ≡ cond (ltb 0 k && ltb k 64 && eqb (bit k l.mask) 1) (eqb (bit k l.word) 1) (get_or l.initial.cells k false);
+  above : (k : ℕ) → l.i ≤ k → get_or l.cells k false ≡ get_or l.initial.cells k false;
+}

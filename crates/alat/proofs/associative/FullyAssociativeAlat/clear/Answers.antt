@@ -1,6 +1,7 @@
 use Rattle.std.proofs.Common.{arith}
-use Rattle.alat.specs.Bounds.{not-repeated}
+use Rattle.std.proofs.lemmas.Grind.{common_steps}
+use Rattle.alat.proofs.Keeping.{unique-front}
 use Rattle.alat.proofs.associative.FullyAssociativeAlat.clear.Goals as goal
 
-pub invariant_of-self : goal.invariant_of-self
-invariant_of-self c = record { within = omega arith; one_each = not-repeated _ tt }
+pub invariant_of-self-clause-one_each : goal.invariant_of-self-clause-one_each
+invariant_of-self-clause-one_each c = unique-front c.args.self.now.entries.items _ (grind (arith, common_steps)) c.args.self.now.one_each

@@ -1,28 +1,15 @@
-use Rattle.std.proofs.Common.{◌≡◌, ◌≤◌, length, take, sym, ◌∙◌, subst, arith}
-use Rattle.std.proofs.lemmas.List.{length-take}
-use Rattle.alat.specs.Bounds.{unique_since, not-repeated, unique-kept}
+use Rattle.std.proofs.Common.{◌≡◌, sym, subst, rules}
+use Rattle.arrayvec.proofs.ArrayVecLemmas.{filter-from_retain}
 use Rattle.alat.specs.Promises.{KeepsApart}
-use Rattle.alat.specs.Table.{OneEach, untouched}
-use Rattle.alat.proofs.Ageing.{retained, from_start}
-use Rattle.alat.proofs.Placing.{keeps-apart}
+use Rattle.alat.specs.Table.{untouched}
+use Rattle.alat.proofs.Keeping.{keeps-apart, unique-retained}
 use Rattle.alat.proofs.associative.FullyAssociativeAlat.store.Goals as goal
 
-pub invariant_of-self : goal.invariant_of-self
-invariant_of-self c =
-    let s = c.args.self.now in
-    let len : length c.retain-self.new.entries ≡ s.count = omega (arith, length-take s.count s.places, s.within) in
-    let few : c.retain-self.result ≤ s.count = omega (arith, length-take s.count s.places, c.retain-self.ensures.bound) in
-    let after = retained c.retain-self.result s.count c.retain-self.new.entries _ _ len few (c.retain-self.ensures.after ∙ from_start (untouched c.args.address c.args.size) s.count s.places) in
-    record {
-      within = omega (arith, few, s.within);
-      one_each = not-repeated _ (subst OneEach (sym after) (unique-kept _ _ (unique_since _ s.one_each)));
-    }
+pub invariant_of-self-clause-one_each : goal.invariant_of-self-clause-one_each
+invariant_of-self-clause-one_each c = unique-retained _ (λ f x b g y called. search rules) _ _ _ c.retain.ensures.filtered c.args.self.now.one_each
 
 pub returns : goal.returns
 returns c =
-    let s = c.args.self.now in
-    let es = take s.count s.places in
-    let len : length c.retain-self.new.entries ≡ s.count = omega (arith, length-take s.count s.places, s.within) in
-    let few : c.retain-self.result ≤ s.count = omega (arith, length-take s.count s.places, c.retain-self.ensures.bound) in
-    let after = retained c.retain-self.result s.count c.retain-self.new.entries _ _ len few (c.retain-self.ensures.after ∙ from_start (untouched c.args.address c.args.size) s.count s.places) in
-    record { after = after; kept = subst (λ l. KeepsApart es c.args.address c.args.size l) (sym after) (keeps-apart es c.args.address c.args.size) }
+    let es = c.args.self.now.entries.items in
+    let after : c.retain.new.self.items ≡ untouched c.args.access es = filter-from_retain _ _ _ (λ x b f y called. search rules) _ _ c.retain.ensures.filtered in
+    record { after = after; kept = subst (KeepsApart es c.args.access) (sym after) (keeps-apart es c.args.access) }

@@ -7,6 +7,6 @@ pub returns : goal.returns
 returns c =
     let s = c.args.self.now in
     record {
-      answer = laid-answer s.base s.bytes.now c.args.address c.args.size c.args.value all_rights refl _ c.store_into.ensures.answer;
-      after = laid-stored s.base s.bytes.now c.args.address c.args.size c.args.value all_rights refl _ (c.store_into.ensures.after all_rights);
+      answer = laid-answer s.base s.bytes.now c.args.access.address c.args.access.size c.args.value all_rights refl _ c.store_into.ensures.answer;
+      after = laid-stored s.base s.bytes.now c.args.access.address c.args.access.size c.args.value all_rights refl _ (c.store_into.ensures.after all_rights);
     }

@@ -1,14 +1,10 @@
-use Rattle.std.proofs.Common.{sym, ap, ◌∙◌, arith}
-use Rattle.paged.specs.Tables.{pages_of}
-use Rattle.paged.proofs.Accesses.{located-in, located-past}
+use Rattle.std.proofs.Common.{◌≡◌, get_or, sym, ap, ◌∙◌, arith}
+use Rattle.std.specs.Option.{unwrap_or}
+use Rattle.paged.proofs.Accesses.{byte-located}
 use Rattle.paged.proofs.kind.Paged.byte.Goals as goal
-
-pub returns-then-place-self : goal.returns-then-place-self
-returns-then-place-self c =
-    let s = c.args.self.now in
-    sym (ap (λ l. l.byte) (located-past (pages_of s.table.now) s.bytes.now c.args.address c.in-Some.place (sym c.locate.ensures ∙ c.in-Some.is) c.if-place-self.true))
 
 pub returns : goal.returns
 returns c =
     let s = c.args.self.now in
-    sym (ap (λ l. l.byte) (located-in (pages_of s.table.now) s.bytes.now c.args.address c.in-Some.place (sym c.locate.ensures ∙ c.in-Some.is) c.if-place-self.false (omega arith)))
+    let read : c.unwrap_or.result ≡ get_or s.bytes.now c.in-Some.place.offset 0 = c.unwrap_or.ensures ∙ ap (λ o. unwrap_or o 0) c.copied.ensures ∙ c.get.ensures.lookup.4 (omega arith) 0 in
+    read ∙ byte-located s.table.now s.bytes.now c.args.address c.in-Some.place (sym c.place.ensures ∙ c.in-Some.is) (omega arith)

@@ -1,30 +1,16 @@
-use Rattle.std.proofs.Common.{ℕ, ◌+◌, ◌^◌, ◌<◌, ◌≤◌, Bool, sym, ap, ◌∙◌, arith}
-use Rattle.memory.specs.Access.{bytes_of, has}
-use Rattle.memory.proofs.Ranges.{each_none, each_more, each-fail}
-use Rattle.memory.proofs.Top.{has-nowhere}
-use Rattle.paged.specs.Pages.{paged, paged-bounded}
-use Rattle.paged.specs.Tables.{pages_of}
+use Rattle.std.proofs.Common.{ℕ, ◌+◌, Bool, refl, ap, ◌∙◌, add-zero, rules, tests, arith}
+use Rattle.std.proofs.lemmas.Iterator.{YieldsList-from_range}
+use Rattle.std.proofs.lemmas.Iterator.Search.{all_from_yields_List}
+use Rattle.memory.specs.Access.{has}
+use Rattle.memory.specs.Meaning.{each}
+use Rattle.paged.specs.Kind.{meaning_of}
+use Rattle.paged.proofs.Bytewise.{each-all}
 use Rattle.paged.proofs.kind.Paged.grants_across.Goals as goal
 
-pub loop-i-init : goal.loop-i-init
-loop-i-init c = each_none _ _
-
-pub returns-in_default : goal.returns-in_default
-returns-in_default c =
-    let s = c.args.self.now in
-    let past : 2 ^ 64 ≤ c.args.address + c.loop-i.i = omega (arith, c.in_default.ensures) in
-    let less : c.loop-i.i < bytes_of c.args.size = omega arith in
-    each-fail _ c.args.address _ c.loop-i.i less (ap (λ l. has l.rights c.args.right) (paged-bounded (pages_of s.table.now) s.bytes.now _ past) ∙ has-nowhere c.args.right)
-
-pub returns-then-not-byte_grants : goal.returns-then-not-byte_grants
-returns-then-not-byte_grants c =
-    let s = c.args.self.now in
-    let test : ℕ → Bool = λ x. has (paged (pages_of s.table.now) s.bytes.now x).rights c.args.right in
-    let less : c.loop-i.i < bytes_of c.args.size = omega arith in
-    each-fail test c.args.address _ c.loop-i.i less (ap test (sym c.in-Some.ensures.1) ∙ sym c.byte_grants.ensures ∙ c.if-not-byte_grants.true)
-
-pub loop-i-preserved : goal.loop-i-preserved
-loop-i-preserved c =
-    let s = c.args.self.now in
-    let test : ℕ → Bool = λ x. has (paged (pages_of s.table.now) s.bytes.now x).rights c.args.right in
-    each_more test c.args.address c.loop-i.i c.loop-i.invariant (ap test (sym c.in-Some.ensures.1) ∙ sym c.byte_grants.ensures ∙ c.if-not-byte_grants.false)
+pub returns : goal.returns
+returns c =
+    let a = c.args.access.address in
+    let n = c.bytes.result in
+    let test : ℕ → Bool = λ x. has (meaning_of c.args.self.now x).rights c.args.right in
+    all_from_yields_List (λ (k : ℕ). test (a + k)) _ _ _ c.all.ensures.ran (YieldsList-from_range 0 n n refl (omega arith)) (λ k b q called. search (rules, tests))
+    ∙ each-all test a 0 n ∙ ap (λ x. each test x n) (add-zero a) ∙ ap (each test a) c.bytes.ensures

@@ -1,27 +1,12 @@
-use Rattle.std.proofs.Common.{◌≤◌, length, arith}
-use Rattle.paged.proofs.Places.{found_at, found_none, found-only}
+use Rattle.std.proofs.Common.{◌-◌, ◌%◌, sym, ◌∙◌, rules, tests, arith}
+use Rattle.std.proofs.lemmas.Iterator.{YieldsList-from_slice}
+use Rattle.std.proofs.lemmas.Iterator.Search.{position_from_yields_List}
+use Rattle.paged.specs.Pages.{Separate}
+use Rattle.paged.proofs.Places.{at_base, index-position}
 use Rattle.paged.proofs.table.PageTable.find.Goals as goal
 
-pub returns-then-self-hint : goal.returns-then-self-hint
-returns-then-self-hint c =
-    let s = c.args.self.now in
-    let len : s.count ≤ length s.pages = omega arith in
-    record {
-      place = found-only s.pages s.count len s.aligned c.args.address (omega arith) s.apart _ c.if-hint-self.true c.if-self-hint.true;
-      holds = (c.if-hint-self.true, c.if-self-hint.true);
-    }
-
-pub returns-then-self-i : goal.returns-then-self-i
-returns-then-self-i c =
-    let s = c.args.self.now in
-    let len : s.count ≤ length s.pages = omega arith in
-    record {
-      place = found_at s.pages s.count len s.aligned c.args.address (omega arith) c.loop-i.i (omega arith) c.if-self-i.true c.loop-i.invariant;
-      holds = (omega arith, c.if-self-i.true);
-    }
-
-pub returns : goal.returns
-returns c =
-    let s = c.args.self.now in
-    let len : s.count ≤ length s.pages = omega arith in
-    record { place = found_none s.pages s.count len s.aligned c.args.address (omega arith) (λ j h. c.loop-i.invariant j (omega arith)); holds = tt }
+pub returns-clause-place : goal.returns-clause-place
+returns-clause-place c =
+    let kept : Separate c.args.self.now = rw c.self.view_is at c.self.invariant.separate in
+    position_from_yields_List (at_base (c.args.address - c.args.address % 4096)) _ _ _ c.position.ensures.ran (YieldsList-from_slice c.args.self.now cc) (λ page b q called. search (rules, tests))
+    ∙ sym (index-position c.args.self.now kept c.args.address (omega arith))

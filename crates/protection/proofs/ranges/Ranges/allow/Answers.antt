@@ -1,18 +1,15 @@
-use Rattle.std.proofs.Common.{refl}
-use Rattle.protection.proofs.Allowing.{next-allowed, not-allowed, all-allowed}
+use Rattle.std.proofs.Common.{[], ◌∷◌, sym, ◌∙◌, rules, tests}
+use Rattle.std.proofs.lemmas.Iterator.{YieldsList-from_slice}
+use Rattle.std.proofs.lemmas.Iterator.Search.{all_from_yields_List}
+use Rattle.memory.specs.Access.{bytes_of}
+use Rattle.protection.specs.declared.range.Range.{Range}
+use Rattle.protection.specs.Taking.{allowed}
+use Rattle.protection.proofs.Allowing.{allowed-each}
 use Rattle.protection.proofs.ranges.Ranges.allow.Goals as goal
-
-pub loop-range-init : goal.loop-range-init
-loop-range-init c = refl
-
-pub loop-range-preserved : goal.loop-range-preserved
-loop-range-preserved c =
-    next-allowed _ c.args.right c.args.address _ c.loop-range.range-index _ c.loop-range-test.true c.if-not-allows.ensures c.loop-range.invariant
-
-pub returns-then-not-allows : goal.returns-then-not-allows
-returns-then-not-allows c =
-    not-allowed _ c.args.right c.args.address _ c.loop-range.range-index _ _ _ c.used-range-items.ensures.value c.bytes-count.ensures c.loop-range-test.true c.if-not-allows.ensures c.loop-range.invariant
 
 pub returns : goal.returns
 returns c =
-    all-allowed _ c.args.right c.args.address _ c.loop-range.range-index _ _ c.used-range-items.ensures.value c.bytes-count.ensures c.loop-range-test.false c.loop-range.invariant
+    let ranges = c.args.self.now in
+    let allows = λ (range : Range). allowed (range ∷ []) c.args.right c.args.access.address (bytes_of c.args.access.size) in
+    all_from_yields_List allows _ _ _ c.all.ensures.ran (YieldsList-from_slice ranges cc) (λ range b q called. search (rules, tests))
+    ∙ sym (allowed-each ranges c.args.right c.args.access.address (bytes_of c.args.access.size))
