@@ -25,8 +25,8 @@ const NO_HINT: Hint = Hint {
 #[derive(Drop)]
 pub struct PageTable {
     pages: ArrayVec<Page, 64>,
-    // The page to try first, by `hint_index`. An array, since a map would need a heap. A hint holds the place and the rights too, so
-    // that one look finds both: without them a load takes about half as long again.
+    // The page to try first, by `hint_index`, with its place and its rights, so that one look finds them. An array, since a map would need
+    // a heap.
     hints: [Hint; 64],
 }
 
