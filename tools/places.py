@@ -27,7 +27,6 @@ def functions():
     for path, text in sources():
         for found in FUNCTION.finditer(text):
             indent = found.group(1)
-            one_line = re.compile(r'^.*\{.*\}$', re.M)
             start = text.find('\n' + indent + '{\n', found.start())
             brace = text.find('{\n', found.start())
             empty = text.find(';\n', found.start())
