@@ -16,7 +16,7 @@ some_in [] x i = absurd i
 some_in (e ∷ es) x i = omega arith
 
 -- an entry of the cell is not among the others
-others-fewer : (cell : ℕ) (es : List Entry) (x : Entry) → In x es → x.cell ≡ cell → length (others cell es) < length es
+pub others-fewer : (cell : ℕ) (es : List Entry) (x : Entry) → In x es → x.cell ≡ cell → length (others cell es) < length es
 others-fewer cell es x i q =
     let p : Entry → Bool = λ y. not (eqb y.cell cell) in
     let both = length-filter_both p (λ y. not (p y)) (λ _. refl) es in

@@ -1,9 +1,9 @@
 -- What is kept of a list of entries.
-use Rattle.std.proofs.Common.{◌≡◌, ℕ, Bool, true, false, List, [], ◌∷◌, length, take, sym, ◌≢◌, ◌∙◌, subst, inl, inr, ⊎_elim}
+use Rattle.std.proofs.Common.{◌≡◌, ℕ, Bool, true, false, List, [], ◌∷◌, length, take, sym, ◌∙◌, subst, inl, inr, ⊎_elim}
 use Rattle.std.specs.List.Retain.{RetainsInTurn}
 use Rattle.memory.specs.declared.access.Access.{Access}
 use Rattle.alat.specs.declared.entry.Entry.{Entry}
-use Rattle.alat.specs.Bounds.{in_take, kept_in, unique-kept, unique-take, in-others, is-other, is-untouched}
+use Rattle.alat.specs.Bounds.{kept_in, unique-take, is-other, is-untouched}
 use Rattle.alat.specs.Promises.{KeepsApart, KeepsOthers}
 use Rattle.alat.specs.Table.{In, OneEach, others, untouched}
 
@@ -30,10 +30,3 @@ module _ {F : Type 0} (R : F → Entry → Bool → F → Entry → Type 0) (sam
 -- a front of a list, however long
 pub unique-front : (es fs : List Entry) → fs ≡ take (length fs) es → OneEach es → OneEach fs
 unique-front es fs q u = subst OneEach (sym q) (unique-take (length fs) es u)
-
--- a new entry before a front of the entries of other cells
-pub unique-entered : (e : Entry) (es fs gs hs : List Entry) → fs ≡ others e.cell es → gs ≡ take (length gs) fs → hs ≡ e ∷ gs → OneEach es → OneEach hs
-unique-entered e es fs gs hs p q r u =
-    let apart : (x : Entry) → In x gs → x.cell ≢ e.cell =
-    λ x i. (in-others e.cell es x (subst (In x) p (in_take (length gs) fs x (subst (In x) q i)))).1 in
-    subst OneEach (sym r) (apart, unique-front fs gs q (subst OneEach (sym p) (unique-kept _ es u)))

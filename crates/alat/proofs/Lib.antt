@@ -1,4 +1,5 @@
 pub mod Ageing
+pub mod Entering
 pub mod Held
 pub mod Keeping
 pub mod Placing

@@ -1,12 +1,12 @@
 -- What the parts of a list of entries keep, from which each kind has its bounds.
 use Rattle.std.specs.Prelude.{◌≡◌, ℕ, zero, suc, ◌+◌, ◌<◌, ◌≤◌, Bool, true, false, not, ◌⊎◌, List, [], ◌∷◌, ◌++◌, take, filter, ◌==◌, ◌≢◌, refl}
-use Rattle.std.proofs.Common.{sym, ap, ◌∙◌, inl, inr, ⊎_elim, arith}
+use Rattle.std.proofs.Common.{sym, ap, subst, ◌∙◌, inl, inr, ⊎_elim, arith}
 use Rattle.std.proofs.lemmas.Bool.{cases_Bool, cases_lt, cond-true, cond-false, cond_both, both_ways, eqb-false, ne_eqb, ltb-true, lt-ltb, and_parts, and_from, not-true, not_from_false}
 use Rattle.memory.specs.Access.{bytes_of}
 use Rattle.memory.proofs.Ranges.{some_bytes}
 use Rattle.memory.specs.declared.access.Access.{Access}
 use Rattle.alat.specs.declared.entry.Entry.{Entry}
-use Rattle.alat.specs.Table.{In, OneEach, SharesByte, shares_a_byte, others, untouched}
+use Rattle.alat.specs.Table.{In, OneEach, Repeated, SharesByte, shares_a_byte, others, untouched}
 
 -- what a test keeps
 
@@ -37,6 +37,29 @@ kept-all p (e ∷ es) h = cond-true (p e) _ _ (h e (inl refl)) ∙ ap (λ l. e �
 pub kept-none : (p : Entry → Bool) (es : List Entry) → ((x : Entry) → In x es → p x ≡ false) → filter p es ≡ []
 kept-none p [] h = refl
 kept-none p (e ∷ es) h = cond-false (p e) _ _ (h e (inl refl)) ∙ kept-none p es (λ x i. h x (inr i))
+
+-- no two entries of one cell, said in two ways
+
+pub unique_since : (es : List Entry) → (Repeated es → ⊥) → OneEach es
+unique_since [] h = tt
+unique_since (e ∷ es) h = (
+  λ x i q. h (record { front = []; first = e; back = es; second = x; split = refl; behind = i; same = q }),
+  unique_since es (λ r. h (record { front = e ∷ r.front; first = r.first; back = r.back; second = r.second; split = ap (λ l. e ∷ l) r.split; behind = r.behind; same = r.same })),
+)
+
+pub apart_in : (es front : List Entry) (e : Entry) (back : List Entry) (x : Entry) → OneEach es → es ≡ front ++ e ∷ back → In x back → x.cell ≢ e.cell
+apart_in [] [] e back x u q i = absurd (let z : ◌≡◌ {A = ℕ} 0 1 = cc in omega arith)
+apart_in [] (f ∷ front) e back x u q i = absurd (let z : ◌≡◌ {A = ℕ} 0 1 = cc in omega arith)
+apart_in (y ∷ ys) [] e back x u q i =
+    let same : y ≡ e = cc in
+    let rest : back ≡ ys = cc in
+    λ p. u.0 x (subst (In x) rest i) (p ∙ ap (λ z. z.cell) (sym same))
+apart_in (y ∷ ys) (f ∷ front) e back x u q i =
+    let rest : ys ≡ front ++ e ∷ back = cc in
+    apart_in ys front e back x u.1 rest i
+
+pub not-repeated : (es : List Entry) → OneEach es → Repeated es → ⊥
+not-repeated es u r = apart_in es r.front r.first r.back r.second u r.split r.behind r.same
 
 -- the front of a list
 

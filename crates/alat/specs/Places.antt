@@ -1,5 +1,5 @@
 -- How the 32 places hold the entries of a table.
-use Rattle.std.specs.Prelude.{◌≡◌, ℕ, suc, List, [], ◌∷◌, Some, None, Option, filter_map, slice_index_or, refl}
+use Rattle.std.specs.Prelude.{◌≡◌, ℕ, suc, ◌+◌, ◌≤◌, List, [], ◌∷◌, Some, None, Option, filter_map, slice_index_or, refl}
 use Rattle.std.proofs.Common.{sym, ap, ◌∙◌, inl, inr, arith}
 use Rattle.alat.specs.declared.entry.Entry.{Entry}
 use Rattle.alat.specs.Table.{In, OneEach}
@@ -32,3 +32,19 @@ unique_by_place (Some e ∷ ps) h = (
 -- entries that stand in the places of their cells are of different cells
 pub listed_unique : (places : List (Option Entry)) → InPlace places → OneEach (listed places)
 listed_unique places h = unique_by_place places (λ j k x y p q s. sym (h j x p) ∙ ap place_for s ∙ h k y q)
+
+-- the same of places from the number `from` on
+abbrev pub InPlaceFrom : ℕ → List (Option Entry) → Type 0
+InPlaceFrom from places = (k : ℕ) (e : Entry) → slice_index_or places k None ≡ Some e → place_for e.cell ≡ from + k
+
+pub in-place-rest : (from : ℕ) (p : Option Entry) (ps : List (Option Entry)) → InPlaceFrom from (p ∷ ps) → InPlaceFrom (suc from) ps
+in-place-rest from p ps h k e q = omega (arith, h (suc k) e q)
+
+pub in-place-first : (from : ℕ) (e : Entry) (ps : List (Option Entry)) → InPlaceFrom from (Some e ∷ ps) → place_for e.cell ≡ from
+in-place-first from e ps h = omega (arith, h 0 e refl)
+
+pub listed-from : (from : ℕ) (ps : List (Option Entry)) (x : Entry) → InPlaceFrom from ps → In x (listed ps) → from ≤ place_for x.cell
+listed-from from [] x h i = absurd i
+listed-from from (None ∷ ps) x h i = omega (arith, listed-from (suc from) ps x (in-place-rest from None ps h) i)
+listed-from from (Some e ∷ ps) x h (inl q) = omega (arith, ap (λ y. place_for y.cell) q, in-place-first from e ps h)
+listed-from from (Some e ∷ ps) x h (inr i) = omega (arith, listed-from (suc from) ps x (in-place-rest from (Some e) ps h) i)

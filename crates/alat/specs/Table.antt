@@ -1,5 +1,5 @@
 -- What an ALAT means: a list of entries, at most one for a cell.
-use Rattle.std.specs.Prelude.{◌≡◌, ℕ, ◌+◌, ◌<◌, ◌≤◌, Bool, not, ◌&&◌, ◌⊎◌, List, [], ◌∷◌, filter, find, Option, ◌==◌, ◌≢◌, nat_lt}
+use Rattle.std.specs.Prelude.{◌≡◌, ℕ, ◌+◌, ◌<◌, ◌≤◌, Bool, not, ◌&&◌, ◌⊎◌, List, [], ◌∷◌, ◌++◌, filter, find, Option, ◌==◌, ◌≢◌, nat_lt}
 use mathlib.Core.HLevel.{×_prop, Π_prop, ⊥_prop, Unit-prop}
 use Rattle.memory.specs.Access.{bytes_of}
 use Rattle.memory.specs.declared.access.Access.{Access}
@@ -18,6 +18,16 @@ OneEach (e ∷ es) = ((x : Entry) → In x es → x.cell ≢ e.cell) × OneEach 
 pub OneEach-prop : (es : List Entry) → IsProp (OneEach es)
 OneEach-prop [] = Unit-prop
 OneEach-prop (e ∷ es) = ×_prop (Π_prop (λ x. Π_prop (λ i. Π_prop (λ q. ⊥_prop)))) (OneEach-prop es)
+
+-- two entries of one cell, one behind the other
+pub record Repeated (es : List Entry) : Type 0 where
+  pub front : List Entry
+  pub first : Entry
+  pub back : List Entry
+  pub second : Entry
+  pub split : es ≡ front ++ first ∷ back
+  pub behind : In second back
+  pub same : second.cell ≡ first.cell
 
 -- the entry that is held for a cell
 abbrev pub held : List Entry → ℕ → Option Entry

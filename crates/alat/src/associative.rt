@@ -1,5 +1,5 @@
 // A table of up to 16 entries of any cells, which loses the oldest.
-ghost use Rattle.std.specs.Prelude.{◌≡◌, ◌≤◌, length};
+ghost use Rattle.std.specs.Prelude.{◌≡◌, ◌+◌, ◌<◌, ◌≤◌, ◌∷◌, ◌++◌, length, take, drop};
 ghost use Rattle.alat.specs.Kinds.{fully_associative, fully_associative_lawful};
 ghost use Rattle.alat.specs.Promises.{Entered, KeepsIfRoom, LosesOldest, KeepsApart, KeepsOthers};
 ghost use Rattle.alat.specs.Rule.{Enter, Store, Remove};
@@ -19,6 +19,15 @@ pub struct FullyAssociative {
     // A contract sees the elements of an `ArrayVec`, and not its capacity.
     ghost within: { length entries.items ≤ 16 },
     ghost one_each: { OneEach entries.items } by { OneEach-prop entries.items },
+}
+
+// The load takes the place of the entry at `at` and goes to the front: only the entries before that one move on.
+fn renew(entries: &mut [Entry], at: usize, load: Entry)
+    requires { at < length entries.old }
+    ensures { entries.new ≡ load ∷ take at entries.old ++ drop (at + 1) entries.old }
+{
+    entries[at] = load;
+    entries[..=at].rotate_right(1);
 }
 
 // A method that has clauses of its own repeats the trait's, which it would lose.
@@ -43,9 +52,16 @@ impl Alat for FullyAssociative {
         ensures kept { KeepsIfRoom self.old.entries.items load self.new.entries.items }
         ensures lost { LosesOldest self.old.entries.items load self.new.entries.items }
     {
-        self.remove(load.cell);
-        self.entries.truncate(CAPACITY - 1);
-        self.entries.insert(0, load);
+        let Some(at) = self
+            .entries
+            .iter()
+            .position(|entry| entry.cell == load.cell)
+        else {
+            self.entries.truncate(CAPACITY - 1);
+            self.entries.insert(0, load);
+            return;
+        };
+        renew(&mut self.entries, at, load);
     }
 
     fn store(&mut self, access: Access)

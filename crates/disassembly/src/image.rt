@@ -1,8 +1,10 @@
 // The lines of an image.
 use crate::slot::slots;
+use arrayvec::ArrayString;
 use bundle::Bundle;
 use memory::Image;
 use std::fmt;
+use std::fmt::Write;
 
 // An image at address 0. It is written as a line for each slot of each full bundle: the bundle's address, the slot, and the instruction in
 // assembler text, or a question mark and the bits of the slot where no instruction is carried.
@@ -16,8 +18,11 @@ fn write_bundle<W: fmt::Write>(
     address: u64,
     bundle: Bundle,
 ) -> fmt::Result {
+    // The digits are made once for the three lines.
+    let mut digits = ArrayString::<16>::new();
+    write!(digits, "{address:016X}")?;
     for (number, slot) in slots(address, bundle).iter().enumerate() {
-        writeln!(f, "{address:016X} {number} {slot}")?;
+        writeln!(f, "{digits} {number} {slot}")?;
     }
     Ok(())
 }

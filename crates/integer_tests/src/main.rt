@@ -161,7 +161,7 @@ fn main(rt: HostRuntime) -> anyhow::Result<()> {
     rt.stdin().read_to_end(&mut input)?;
     let mut text = String::new(heap);
     for bytes in input.chunks_exact(20) {
-        let case = parse(bytes).context("a case with no such position or length")?;
+        let case = parse(bytes).context("the input ends inside a case")?;
         let word = case.operation.result(case.a, case.b);
         writeln!(text, "{word:016x}")?;
     }

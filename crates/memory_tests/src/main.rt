@@ -150,12 +150,26 @@ enum Trouble {
     Refused(#[from] Refusal),
     #[error("the input ends within a case")]
     CutInput,
-    #[error(transparent)]
-    Memory(#[from(alloc)] AllocError),
-    #[error(transparent)]
-    Text(#[from] fmt::Error),
-    #[error(transparent)]
-    Stream(#[from] io::Error),
+    #[error("{0:?}")]
+    Other(anyhow::Error),
+}
+
+impl From<AllocError> for Trouble {
+    fn from(error: AllocError) -> Trouble {
+        Trouble::Other(error.into())
+    }
+}
+
+impl From<fmt::Error> for Trouble {
+    fn from(error: fmt::Error) -> Trouble {
+        Trouble::Other(error.into())
+    }
+}
+
+impl From<io::Error> for Trouble {
+    fn from(error: io::Error) -> Trouble {
+        Trouble::Other(error.into())
+    }
 }
 
 // The answers of all memories to each case of the input, a line for each.

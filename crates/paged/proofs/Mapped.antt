@@ -53,6 +53,7 @@ module _ (ps : List Page) (page : Page) (kept : Separate ps) (even : page.base %
 -- no hint says anything at first
 pub kept-none : (ps : List Page) → ps ≡ [] → Kept ps (replicate 64 no_hint)
 kept-none ps e = record {
+  few = omega (arith, ap length e);
   separate = record { aligned = λ i h. let n = ap length e in absurd (omega arith); apart = λ i j. let n = ap length e in grind (arith, nat_tests) };
   whole = refl;
   low = λ k h. let z : (get_or (replicate 64 no_hint) k some_hint).place.offset ≡ 0 = ap (λ (t : Hint). t.place.offset) (get_or-replicate 64 k no_hint some_hint h) in omega arith;
@@ -62,6 +63,7 @@ kept-none ps e = record {
 -- and what its hint and the others say after one page more
 pub kept-more : (ps : List Page) (page : Page) (hints : List Hint) (n count : ℕ) → count ≡ length ps → Kept ps hints → page.base % 4096 ≡ 0 → page.base < 2 ^ 64 → is_some (index_of ps page.base) ≡ false → n < 64 → count < 64 → Kept (ps ++ page ∷ []) (set hints n (record { base = page.base; place = record { offset = 4096 * count; rights = page.rights } }))
 kept-more ps page hints n count long kept even top none h few = record {
+  few = omega (arith, length-append ps (page ∷ []));
   separate = separate-more ps page kept.separate even (unfound ps kept.separate page.base top none even);
   whole = length-set _ _ _ ∙ kept.whole;
   low = λ k l. ⊎_elim (last-low k) (old-low k l) (cases_eq k n);

@@ -97,6 +97,14 @@ found ps a p e = go (index_of ps a) refl e
     go None q e' = absurd (let z : ◌≡◌ {A = ℕ} 0 1 = cc in omega arith)
     go (Some i) q e' = (i, q, cc)
 
+-- where no address lies there is no page
+pub unplaced : (ps : List Page) (a : ℕ) (o : Option Place) → o ≡ place_for ps a → is_some o ≡ false → is_some (index_of ps a) ≡ false
+unplaced ps a o e none = go (index_of ps a) (sym (ap is_some e) ∙ none)
+  where
+    go : (i : Option ℕ) → is_some (option_map (placed ps a) i) ≡ false → is_some i ≡ false
+    go None h = h
+    go (Some k) h = h
+
 -- of pages that lie apart
 module _ (ps : List Page) (kept : Separate ps) (a : ℕ) (top : a < 2 ^ 64) where
   pub index-position : index_of ps a ≡ position (at_base (a - a % 4096)) ps

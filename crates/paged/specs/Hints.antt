@@ -11,8 +11,9 @@ some_hint = record { base = 0; place = record { offset = 0; rights = record { re
 abbrev pub no_hint : Hint
 no_hint = record some_hint { base = 1 }
 
--- the pages lie apart, and a hint whose base can be a page's has the place of that address
+-- there are 64 pages at most, they lie apart, and a hint whose base can be a page's has the place of that address
 pub record Kept (pages : List Page) (hints : List Hint) : Type 0 where
+  pub few : length pages ≤ 64
   pub separate : Separate pages
   pub whole : length hints ≡ 64
   pub low : (k : ℕ) → k < 64 → (slice_index_or hints k some_hint).place.offset ≤ 2 ^ 18

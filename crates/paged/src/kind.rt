@@ -1,5 +1,5 @@
 // Paged memory as a kind of memory.
-ghost use Rattle.std.specs.Prelude.{◌≡◌, ◌+◌, ◌-◌, ◌%◌, ◌≤◌, nat_lt, Some};
+ghost use Rattle.std.specs.Prelude.{◌≡◌, ◌+◌, ◌-◌, ◌%◌, ◌≤◌, length, nat_lt, Some};
 ghost use Rattle.memory.specs.Access.{bytes_of, has as has_right};
 ghost use Rattle.memory.specs.Meaning.{granted, loaded, store_answer, stored};
 ghost use Rattle.paged.specs.Kind.{meaning_of};
@@ -10,7 +10,6 @@ use crate::table::PageTable;
 use memory::{
     Access, MissingRight, Readable, Right, Size, Writable, covers, load_from, store_into,
 };
-use std::array;
 
 // The pages of a table over bytes of the caller. The table is lent, so that several memories can have the same pages.
 #[derive(Drop)]
@@ -29,8 +28,11 @@ fn crosses(access: Access) -> bool
 impl<'a> Paged<'a> {
     // The pages of the table, each over its bytes: the first page over the first 4,096, and so on.
     pub fn new(table: &'a PageTable, bytes: &'a mut [u8]) -> Paged<'a>
-        ensures { meaning_of result ≡ paged table.now bytes.old }
+        ensures meaning { meaning_of result ≡ paged table.now bytes.old }
+        ensures few { length table.now ≤ 64 }
+        ensures separate { Separate table.now }
     {
+        table.kept();
         Paged { table, bytes }
     }
 }
@@ -108,8 +110,11 @@ impl Paged<'_> {
                 address: access.address,
             });
         }
-        // All eight, whatever the size: a load from them takes those that it has.
-        let word: [u8; 8] = array::from_fn(|i| self.byte(access.address.wrapping_add(i as u64)));
+        let mut word = [0; 8];
+        let count = access.size.bytes() as usize;
+        for (i, byte) in word[..count].iter_mut().enumerate() {
+            *byte = self.byte(access.address + i as u64);
+        }
         load_from(
             0,
             &word,

@@ -1,6 +1,7 @@
 // The mapping of pages, which ends before the memory is used.
-ghost use Rattle.std.specs.Prelude.{◌≡◌, []};
+ghost use Rattle.std.specs.Prelude.{◌≡◌, ◌≤◌, [], length};
 ghost use Rattle.paged.specs.Mapping.{map_answer, pages_after};
+ghost use Rattle.paged.specs.Pages.{Separate};
 
 use crate::page::Page;
 use crate::table::PageTable;
@@ -37,7 +38,9 @@ impl PageMap {
 
     // The table of these pages, to which none can be added.
     pub fn finish(self) -> PageTable
-        ensures { result ≡ self.table }
+        ensures pages { result ≡ self.table }
+        ensures few { length result ≤ 64 }
+        ensures separate { Separate result }
     {
         let PageMap { table, room: _ } = self;
         table

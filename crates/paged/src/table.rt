@@ -1,5 +1,5 @@
 // The table of pages.
-ghost use Rattle.std.specs.Prelude.{◌≡◌, ◌-◌, ◌%◌, ◌<◌, [], length, IfSome, slice_index_or};
+ghost use Rattle.std.specs.Prelude.{◌≡◌, ◌-◌, ◌%◌, ◌<◌, ◌≤◌, [], length, IfSome, slice_index_or};
 ghost use Rattle.paged.specs.Mapping.{map_answer, pages_after};
 ghost use Rattle.paged.specs.Pages.{Separate, index_of, no_page, offset_with, place_for};
 
@@ -60,6 +60,15 @@ impl PageTable {
         }
     }
 
+    // What every table keeps: it has 64 pages at most, and they lie apart.
+    pub(crate) fn kept(&self)
+        ensures few { length self.now ≤ 64 }
+        ensures separate { Separate self.now }
+    {
+        // To read a field is to know the invariant.
+        let _count = self.pages.len();
+    }
+
     // One page more, where `room` bytes are there for all pages.
     pub(crate) fn add(&mut self, page: Page, room: usize) -> Result<(), Refusal>
         ensures answer { result ≡ map_answer self.old room page.base }
@@ -69,7 +78,7 @@ impl PageTable {
         if count == 64 || room < 4096 * count + 4096 {
             return Err(Refusal::NoRoom);
         }
-        if page.base % 4096 != 0 || self.find(page.base).is_some() {
+        if page.base % 4096 != 0 || self.place(page.base).is_some() {
             return Err(Refusal::BadBase);
         }
         self.pages.push(page);
@@ -95,8 +104,17 @@ impl PageTable {
 
     // Where the address lies.
     pub(crate) fn place(&self, address: u64) -> Option<Place>
-        ensures { result ≡ place_for self.now address }
+        ensures place { result ≡ place_for self.now address }
+        ensures separate { Separate self.now }
     {
+        let offset = address % 4096;
+        let hint = self.hints[hint_index(address - offset)];
+        if hint.base == address - offset {
+            return Some(Place {
+                offset: hint.place.offset + offset,
+                rights: hint.place.rights,
+            });
+        }
         let i = self.find(address)?;
         let page = self.pages[i];
         Some(Place {
@@ -110,15 +128,6 @@ impl PageTable {
         ensures place { result ≡ offset_with right (place_for self.now address) }
         ensures separate { Separate self.now }
     {
-        let offset = address % 4096;
-        let hint = self.hints[hint_index(address - offset)];
-        if hint.base == address - offset {
-            return hint
-                .place
-                .rights
-                .has(right)
-                .then_some(hint.place.offset + offset);
-        }
         let place = self.place(address)?;
         place.rights.has(right).then_some(place.offset)
     }

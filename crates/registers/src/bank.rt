@@ -37,10 +37,10 @@ impl Window {
 
     // What a register reads as.
     pub fn read<K: BlankKind>(self, cells: &[K::Cell], register: u16) -> K::Cell
-        ensures { result ≡ read_register K.REGISTER_ZERO K.BLANK K.FIXED self cells.now register }
+        ensures { result ≡ read_register K.BlankKind.first K.BlankKind.blank K.FIXED self cells.now register }
     {
         if register == 0 {
-            return K::REGISTER_ZERO;
+            return K::register_zero();
         }
         cell::<K>(cells, self.name::<K>(register))
     }
@@ -58,10 +58,10 @@ impl Window {
 
 // What a cell holds; a blank where there is none.
 pub fn cell<K: BlankKind>(cells: &[K::Cell], cell: Option<u16>) -> K::Cell
-    ensures { result ≡ cell_at K.BLANK cells.now cell }
+    ensures { result ≡ cell_at K.BlankKind.blank cells.now cell }
 {
     cell.and_then(|i| cells.get(i as usize).copied())
-        .unwrap_or(K::BLANK)
+        .unwrap_or(K::blank_cell())
 }
 
 // Writes a cell; where there is none, nothing changes.
@@ -80,13 +80,13 @@ pub fn set_cell<K: Kind>(cells: &mut [K::Cell], cell: Option<u16>, value: K::Cel
 
 // Blanks the cells from `from` on.
 pub fn blank_cells<K: BlankKind>(cells: &mut [K::Cell], from: u16, count: u16)
-    ensures whole { cells.new ≡ filled from count K.BLANK cells.old }
-    ensures each { (k : ℕ) → slice_index_or cells.new k K.BLANK ≡ (if nat_le from k && nat_lt k (from + count) then K.BLANK else slice_index_or cells.old k K.BLANK) }
+    ensures whole { cells.new ≡ filled from count K.BlankKind.blank cells.old }
+    ensures each { (k : ℕ) → slice_index_or cells.new k K.BlankKind.blank ≡ (if nat_le from k && nat_lt k (from + count) then K.BlankKind.blank else slice_index_or cells.old k K.BlankKind.blank) }
 {
     let end = (from as usize + count as usize).min(cells.len());
     let start = (from as usize).min(end);
     // A loop, since `fill` asks that a clone of the cell cannot fail.
     for cell in &mut cells[start..end] {
-        *cell = K::BLANK;
+        *cell = K::blank_cell();
     }
 }

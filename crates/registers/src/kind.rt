@@ -1,5 +1,5 @@
 // The kinds of banks.
-ghost use Rattle.std.specs.Prelude.{ℕ, ◌<◌, true, false};
+ghost use Rattle.std.specs.Prelude.{◌≡◌, ℕ, ◌<◌, true, false};
 ghost use Rattle.std.proofs.Common.{lit<};
 
 // A kind of bank: its cell, and the count of fixed registers, which are never renamed.
@@ -13,16 +13,19 @@ pub trait Kind {
     ghost few: { FIXED < 1000 };
 }
 
-// A kind of bank whose cells have a blank, which a register reads as where there is no cell.
+// A kind of bank whose cells have a blank, which a register reads as where there is no cell. Functions, since a constant cannot be made by a
+// call, and a kind's cell may be a type that only its own functions make.
 pub trait BlankKind: Kind {
-    const BLANK: Self::Cell;
+    ghost blank: { Self.Cell };
 
     // What register 0 reads as.
-    const REGISTER_ZERO: Self::Cell;
+    ghost first: { Self.Cell };
 
-    ghost BLANK: { Self.Cell };
+    fn blank_cell() -> Self::Cell
+        ensures { result ≡ blank };
 
-    ghost REGISTER_ZERO: { Self.Cell };
+    fn register_zero() -> Self::Cell
+        ensures { result ≡ first };
 }
 
 // A general cell: a value, and the NaT bit that says that it is not a thing.
@@ -46,20 +49,23 @@ impl Kind for Generals {
 }
 
 impl BlankKind for Generals {
-    const BLANK: General = General {
-        value: 0,
-        nat: false,
-    };
+    ghost blank = { record { value = 0; nat = false } };
 
-    // Written out: the value of a constant cannot name `Self::BLANK`.
-    const REGISTER_ZERO: General = General {
-        value: 0,
-        nat: false,
-    };
+    ghost first = { record { value = 0; nat = false } };
 
-    ghost BLANK = { record { value = 0; nat = false } };
+    fn blank_cell() -> General {
+        General {
+            value: 0,
+            nat: false,
+        }
+    }
 
-    ghost REGISTER_ZERO = { record { value = 0; nat = false } };
+    fn register_zero() -> General {
+        General {
+            value: 0,
+            nat: false,
+        }
+    }
 }
 
 // The bank of predicates.
@@ -76,11 +82,15 @@ impl Kind for Predicates {
 }
 
 impl BlankKind for Predicates {
-    const BLANK: bool = false;
+    ghost blank = { false };
 
-    const REGISTER_ZERO: bool = true;
+    ghost first = { true };
 
-    ghost BLANK = { false };
+    fn blank_cell() -> bool {
+        false
+    }
 
-    ghost REGISTER_ZERO = { true };
+    fn register_zero() -> bool {
+        true
+    }
 }

@@ -47,7 +47,9 @@ pub fn set_predicate_word(cells: &mut [bool], word: u64, mask: u64)
     ensures whole { cells.new ≡ masked_from word mask 63 cells.old }
     ensures each { (k : ℕ) → k < length cells.old → slice_index_or cells.new k false ≡ (if nat_lt 0 k && nat_lt k 64 && bit k mask == 1 then (bit k word == 1) else slice_index_or cells.old k false) }
 {
-    for (i, cell) in cells.iter_mut().enumerate() {
+    // The cells past the 64 bits of the word stay, and are not gone through.
+    let end = cells.len().min(64);
+    for (i, cell) in cells[..end].iter_mut().enumerate() {
         *cell = masked_cell(*cell, i, word, mask);
     }
 }

@@ -3,4 +3,4 @@ use Rattle.registers.proofs.bank.blank_cells.Given as goal
 
 -- the cells so far are blank
 abbrev pub invariant-loop-cell : goal.invariant-loop-cell
-invariant-loop-cell g l = (k : ℕ) → k < l.cell-index → get_or l.cell-items k g.K.BlankKind.BLANK ≡ g.K.BlankKind.BLANK
+invariant-loop-cell g l = (k : ℕ) → k < l.cell-index → get_or l.cell-items k g.K.BlankKind.blank ≡ g.K.BlankKind.blank
