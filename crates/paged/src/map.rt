@@ -31,9 +31,13 @@ impl PageMap {
         ensures answer { result ≡ map_answer self.old.table self.old.room base }
         ensures pages { self.new.table ≡ pages_after result self.old.table (record { base = base; rights = rights }) }
         ensures room { self.new.room ≡ self.old.room }
+        ensures few { length self.new.table ≤ 64 }
+        ensures separate { Separate self.new.table }
     {
         let room = self.room;
-        self.table.add(Page { base, rights }, room)
+        let answer = self.table.add(Page { base, rights }, room);
+        self.table.kept();
+        answer
     }
 
     // The table of these pages, to which none can be added.
